@@ -1,0 +1,63 @@
+// The C interface: numbers and slices only. A slice is passed as a pointer and then a length.
+use model::FileAnswer;
+ghost use mathlib.Core.Path.{_≡_};
+ghost use Prim.Native.Nat.{ℕ, _≤_};
+ghost use lib.ListN.{length};
+ghost use Rattle.model.specs.Lookup.{rowsOf};
+ghost use Rattle.model.specs.Questions.{fileQuestions};
+ghost use Rattle.capi.specs.Interface.{Numbers, Written, checkNumbers, copied, three};
+
+// Writes three numbers to the front of a table that has room for them.
+fn put3(answer: &mut [u64], a: u64, b: u64, c: u64)
+    requires { ⌜ 3 ≤ length (now answer) ⌝ }
+    ensures { λ _. ⌜ now (answer .exit) ≡ three a b c (now (answer .entry)) ⌝ }
+{
+    answer[0] = a;
+    answer[1] = b;
+    answer[2] = c;
+}
+
+// 3 passed, with answer 0, 0, 0; 0 refused, with answer question, place, 0; 4 where `answer` has fewer than 3 entries, and then
+// nothing is written. Entries beyond the third stay.
+#[no_mangle]
+pub extern "C" fn cuulipso_check(file: &[u8], answer: &mut [u64]) -> u8
+    ensures { λ r. ⌜ Written (checkNumbers (fileQuestions (now (file .entry)))) (now (answer .entry)) (now (answer .exit)) r ⌝ }
+{
+    if answer.len() < 3 {
+        return 4;
+    }
+    let said = reading::questions::check(file);
+    match said {
+        FileAnswer::Passed => {
+            put3(answer, 0, 0, 0);
+            3
+        }
+        FileAnswer::Refused { question, place } => {
+            put3(answer, question as u64, place as u64, 0);
+            0
+        }
+    }
+}
+
+// Copies the front of `from` to the front of `to`, as far as it fits.
+fn copy_front(from: &[u8], to: &mut [u8])
+    ensures { λ _. ⌜ now (to .exit) ≡ copied (now (from .entry)) (now (to .entry)) ⌝ }
+{
+    let mut i = 0;
+    while i < from.len() && i < to.len() {
+        to[i] = from[i];
+        i += 1;
+    }
+}
+
+// The length of the stretch of the state's rows; its bytes stand at the front of `out` as far as they fit, the rest of `out` stays.
+#[no_mangle]
+pub extern "C" fn cuulipso_rows(file: &[u8], state: u64, out: &mut [u8]) -> u64
+    ensures { λ r.
+        ⌜ (r ≡ length (rowsOf (now (file .entry)) state))
+        × (now (out .exit) ≡ copied (rowsOf (now (file .entry)) state) (now (out .entry))) ⌝ }
+{
+    let rows = reading::questions::rows_of(file, state as usize);
+    copy_front(rows, out);
+    rows.len() as u64
+}

@@ -1,0 +1,198 @@
+-- Backups along a list, rounds and runs: the three kinds of backup, what a property kept by each backup gives, and what stays.
+-- By induction on the list and on the budget.
+use mathlib.Core.Path.{_≡_, refl, sym, _∙_}
+use Prim.Native.Nat.{ℕ, zero, suc, _+_, _≤_, _<_}
+use native.Mathlib.Omega.{arith}
+use mathlib.Core.Bool.{Bool, true, false, or-true, or-false}
+use mathlib.Core.List.{List, [], _∷_}
+use lib.Dec.{eqb}
+use lib.ListN.{getD, set, length, length-set}
+use lib.Seq.{set-getD}
+use borrow.Author.Tests.{leb-true, leb-false, eqb-true, eqb-false}
+use Rattle.model.specs.Problem.{Problem}
+use Rattle.model.specs.Value.{entry}
+use Rattle.model.specs.Walk.{In, here, there, walk}
+use Rattle.model.specs.Rounds.{Machine, Found, scanOf, raiseOn, rises, settle, backup}
+use Rattle.model.specs.Rounds.{backups, walked, round, Ending, solved, spent, runFrom}
+use Rattle.guarantee.specs.Formed.{WellFormed}
+use Rattle.guarantee.specs.Walks.{listed-state, listed-open}
+use Rattle.guarantee.specs.Sound.{Sound, scan-law, raise-length, values-rise, backup-sound}
+
+-- a state that is no goal
+pub record Open (p : Problem) (s : ℕ) : Type 0 where
+  pub state : s < p .states
+  pub no-goal : p .goal s ≡ false
+
+-- what a backup at s does: it raises V(s), or it changes the pick only, or it changes neither
+pub data Backed (p : Problem) (e s : ℕ) (m : Machine) : Type 0 where
+  rose
+      : getD (m .values) s 0 + e ≤ scanOf p s m .best → backup p e s m .values ≡ set (m .values) s (scanOf p s m .best)
+      → backup p e s m .moved ≡ true → Backed p e s m
+  turned
+      : (scanOf p s m .pick ≡ getD (m .picks) s 0 → ⊥) → backup p e s m .values ≡ m .values → backup p e s m .moved ≡ true → Backed p e s m
+  rested
+      : scanOf p s m .best < getD (m .values) s 0 + e → scanOf p s m .pick ≡ getD (m .picks) s 0 → backup p e s m .values ≡ m .values
+      → backup p e s m .picks ≡ m .picks → backup p e s m .moved ≡ m .moved → Backed p e s m
+
+-- the rounds done and the machine of an ending
+abbrev pub roundsOf : Ending → ℕ
+roundsOf (solved n m) = n
+roundsOf (spent n m) = n
+
+abbrev pub machineOf : Ending → Machine
+machineOf (solved n m) = m
+machineOf (spent n m) = m
+
+spent-not-solved : {n k : ℕ} {m m′ : Machine} → spent n m ≡ solved k m′ → ⊥
+spent-not-solved q = let z : _≡_ {A = ℕ} 0 1 = cc in omega arith
+
+pub backed : (p : Problem) (e s : ℕ) (m : Machine) → Backed p e s m
+unfolding backup settle raiseOn
+backed p e s m = go (rises e s m a) (eqb (a .pick) (getD (m .picks) s 0)) refl refl
+  where
+    a : Found
+    a = scanOf p s m
+
+    go : (b c : Bool) → rises e s m a ≡ b → eqb (a .pick) (getD (m .picks) s 0) ≡ c → Backed p e s m
+    go true c r q = rose (leb-true _ _ r) (rw r refl) (rw r (or-true (m .moved)))
+    go false true r q =
+        let same : a .pick ≡ getD (m .picks) s 0 = eqb-true _ _ q in
+        rested (leb-false _ _ r) same (rw r refl) (rw same (set-getD (m .picks) s 0)) (rw (r, q) (or-false (m .moved)))
+    go false false r q = turned (eqb-false _ _ q) (rw r refl) (rw (r, q) (or-true (m .moved)))
+
+pub backup-picks : (p : Problem) (e s : ℕ) (m : Machine) → backup p e s m .picks ≡ set (m .picks) s (scanOf p s m .pick)
+unfolding backup settle
+backup-picks p e s m = refl
+
+-- backups keep the list, and a round's list is the walk's
+pub backup-list : (p : Problem) (e s : ℕ) (m : Machine) → backup p e s m .list ≡ m .list
+unfolding backup settle
+backup-list p e s m = refl
+
+pub backups-list : (p : Problem) (e : ℕ) (l : List ℕ) (m : Machine) → backups p e l m .list ≡ m .list
+unfolding backups
+backups-list p e [] m = refl
+backups-list p e (s ∷ l) m = backups-list p e l (backup p e s m) ∙ backup-list p e s m
+
+pub round-list : (p : Problem) (e : ℕ) (m : Machine) → round p e m .list ≡ walk p (entry (m .picks)) .list
+unfolding round
+round-list p e m = backups-list p e (walk p (entry (m .picks)) .list) (walked p m)
+
+pub walk-opens : (p : Problem) → WellFormed p → (picks : ℕ → ℕ) (s : ℕ) → In s (walk p picks .list) → Open p s
+walk-opens p formed picks s i = record { state = listed-state p formed picks s i; no-goal = listed-open p formed picks s i }
+
+-- what every backup of an open state keeps, backups along a list of open states keep, and so does a round's walk list
+module _ (p : Problem) (e : ℕ) (Inv : Machine → Type 0) (kept : (s : ℕ) (m : Machine) → Open p s → Inv m → Inv (backup p e s m)) where
+  pub backups-keep : (l : List ℕ) (m : Machine) → ((s : ℕ) → In s l → Open p s) → Inv m → Inv (backups p e l m)
+  unfolding backups
+  backups-keep [] m opens h = h
+  backups-keep (s ∷ l) m opens h = backups-keep l (backup p e s m) (λ t i. opens t (there i)) (kept s m (opens s here) h)
+
+  pub round-keeps : WellFormed p → (m : Machine) → Inv (walked p m) → Inv (round p e m)
+  unfolding round
+  round-keeps formed m h = backups-keep (walk p (entry (m .picks)) .list) (walked p m) (walk-opens p formed (entry (m .picks))) h
+
+-- the quiet round that ends a solved run: the machine before it, of which `Inv n` holds after n rounds
+pub record Quiet (p : Problem) (e : ℕ) (Inv : ℕ → Machine → Type 0) (k : ℕ) (m : Machine) : Type 0 where
+  pub rounds : ℕ
+  pub before : Machine
+  pub held : Inv rounds before
+  pub quiet : round p e before .moved ≡ false
+  pub count : suc rounds ≡ k
+  pub ends : round p e before ≡ m
+
+-- a run that is not going is solved
+pub run-stops : (p : Problem) (e budget n : ℕ) (m : Machine) → runFrom p e budget false n m ≡ solved n m
+unfolding runFrom
+run-stops p e zero n m = refl
+run-stops p e (suc budget) n m = refl
+
+-- what every round keeps, with the number of rounds done, holds of a run's ending
+module _ (p : Problem) (e : ℕ) (Inv : ℕ → Machine → Type 0) (kept : (n : ℕ) (m : Machine) → Inv n m → Inv (suc n) (round p e m)) where
+  pub run-keeps
+      : (budget : ℕ) (going : Bool) (n : ℕ) (m : Machine) → Inv n m
+      → Inv (roundsOf (runFrom p e budget going n m)) (machineOf (runFrom p e budget going n m))
+  unfolding runFrom
+  run-keeps zero true n m h = h
+  run-keeps zero false n m h = h
+  run-keeps (suc budget) false n m h = h
+  run-keeps (suc budget) true n m h = run-keeps budget (round p e m .moved) (suc n) (round p e m) (kept n m h)
+
+  -- a solved run ends with a quiet round
+  pub run-quiet
+      : (budget n : ℕ) (m : Machine) (k : ℕ) (m′ : Machine) → Inv n m → runFrom p e budget true n m ≡ solved k m′ → Quiet p e Inv k m′
+  unfolding runFrom
+  run-quiet zero n m k m′ h q = absurd (spent-not-solved q)
+  run-quiet (suc budget) n m k m′ h q =
+      go (round p e m .moved) refl q (λ q′. run-quiet budget (suc n) (round p e m) k m′ (kept n m h) q′)
+    where
+      go
+          : (b : Bool) → round p e m .moved ≡ b → runFrom p e budget b (suc n) (round p e m) ≡ solved k m′
+          → (runFrom p e budget true (suc n) (round p e m) ≡ solved k m′ → Quiet p e Inv k m′) → Quiet p e Inv k m′
+      go true moved q ih = ih q
+      go false still q ih =
+          let done : solved (suc n) (round p e m) ≡ solved k m′ = sym (run-stops p e budget (suc n) (round p e m)) ∙ q in
+          record { rounds = n; before = m; held = h; quiet = still; count = cc; ends = cc }
+
+-- rounds and runs keep a machine sound
+module _ (p : Problem) (formed : WellFormed p) (e : ℕ) where
+  pub walked-sound : (m : Machine) → Sound p m → Sound p (walked p m)
+  walked-sound m h =
+      record {
+        values-length = h .values-length;
+        picks-length = h .picks-length;
+        remembered-length = h .remembered-length;
+        goal-values = h .goal-values;
+        high = h .high;
+        under = h .under;
+        memory = h .memory;
+        picked = h .picked;
+        goal-picks = h .goal-picks;
+      }
+
+  pub round-sound : (m : Machine) → Sound p m → Sound p (round p e m)
+  round-sound m h =
+      round-keeps p e (Sound p) (λ s n o k. backup-sound p formed s n (o .state) k e (o .no-goal)) formed m (walked-sound m h)
+
+  pub run-sound : (budget : ℕ) (going : Bool) (n : ℕ) (m : Machine) → Sound p m → Sound p (machineOf (runFrom p e budget going n m))
+  run-sound = run-keeps p e (λ n. Sound p) (λ n. round-sound)
+
+-- what sound backups lead to from a machine: still sound, tables as long as before, no value fallen
+pub record Follows (p : Problem) (m m′ : Machine) : Type 0 where
+  pub sound : Sound p m′
+  pub values-length : length (m′ .values) ≡ length (m .values)
+  pub picks-length : length (m′ .picks) ≡ length (m .picks)
+  pub remembered-length : length (m′ .remembered) ≡ length (m .remembered)
+  pub risen : (s : ℕ) → getD (m .values) s 0 ≤ getD (m′ .values) s 0
+
+module _ (p : Problem) (formed : WellFormed p) (e : ℕ) where
+  pub follows-none : (m : Machine) → Sound p m → Follows p m m
+  follows-none m h =
+      record { sound = h; values-length = refl; picks-length = refl; remembered-length = refl; risen = λ s. omega arith }
+
+  pub backup-follows : (m : Machine) (s : ℕ) (a : Machine) → Open p s → Follows p m a → Follows p m (backup p e s a)
+  unfolding backup settle
+  backup-follows m s a o h =
+      record {
+        sound = backup-sound p formed s a (o .state) (h .sound) e (o .no-goal);
+        values-length = raise-length (rises e s a (scanOf p s a)) (a .values) s (scanOf p s a .best) ∙ h .values-length;
+        picks-length = length-set (a .picks) s (scanOf p s a .pick) ∙ h .picks-length;
+        remembered-length = scan-law p formed s a (o .state) (h .sound) .size ∙ h .remembered-length;
+        risen = λ t. omega (arith, h .risen t, values-rise p formed s a (o .state) (h .sound) e t);
+      }
+
+  walked-follows : (m a : Machine) → Follows p m a → Follows p m (walked p a)
+  walked-follows m a h =
+      record {
+        sound = walked-sound p formed e a (h .sound);
+        values-length = h .values-length;
+        picks-length = h .picks-length;
+        remembered-length = h .remembered-length;
+        risen = h .risen;
+      }
+
+  pub round-follows : (m a : Machine) → Follows p m a → Follows p m (round p e a)
+  round-follows m a h = round-keeps p e (Follows p m) (backup-follows m) formed a (walked-follows m a h)
+
+  pub run-follows : (budget : ℕ) (going : Bool) (n : ℕ) (m : Machine) → Sound p m → Follows p m (machineOf (runFrom p e budget going n m))
+  run-follows budget going n m h = run-keeps p e (λ k. Follows p m) (λ k. round-follows m) budget going n m (follows-none m h)

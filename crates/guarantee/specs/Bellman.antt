@@ -1,0 +1,59 @@
+-- The Bellman backup as the greatest number that is at most 1000 × D and at most every own row's value, and that a choice ends at it.
+-- By induction on the number of rows; a choice is below all of these and equal to one of them.
+use mathlib.Core.Path.{_≡_}
+use Prim.Native.Nat.{ℕ, zero, suc, _+_, _≤_, _<_, min}
+use native.Mathlib.Nat.{eq-or-lt-of-le, le-antisymm}
+use native.Mathlib.Omega.{arith}
+use mathlib.Core.Logic.{_⊎_, inl, inr}
+use Rattle.model.specs.Problem.{Problem, giveUpCost, endRow}
+use Rattle.model.specs.Value.{rowValue}
+use Rattle.model.specs.Rounds.{leastValue, bellman}
+use Rattle.guarantee.specs.Rows.{own-low, own-high}
+use Rattle.guarantee.specs.Choosing.{Chosen, choice, Landed, at-giving-up, at-row, choice-high, choice-under, choice-landed}
+
+module _ (p : Problem) (v : ℕ → ℕ) where
+  pub least-high : (k r : ℕ) → leastValue p v r k ≤ giveUpCost p
+  unfolding leastValue
+  least-high zero r = omega arith
+  least-high (suc k) r = omega (arith, least-high k (suc r))
+
+  pub least-under : (k r i : ℕ) → r ≤ i → i < r + k → leastValue p v r k ≤ rowValue p v i
+  unfolding leastValue
+  least-under zero r i low high = absurd (omega arith)
+  least-under (suc k) r i low high = go (eq-or-lt-of-le low) (least-under k (suc r) i)
+    where
+      go : (r ≡ i) ⊎ (r < i) → (suc r ≤ i → i < suc r + k → leastValue p v (suc r) k ≤ rowValue p v i)
+          → min (rowValue p v r) (leastValue p v (suc r) k) ≤ rowValue p v i
+      go (inl at) ih = rw (← at) (omega arith)
+      go (inr l) ih = omega (arith, ih l (omega arith))
+
+  pub least-greatest
+      : (x k r : ℕ) → x ≤ giveUpCost p → ((i : ℕ) → r ≤ i → i < r + k → x ≤ rowValue p v i) → x ≤ leastValue p v r k
+  unfolding leastValue
+  least-greatest x zero r top rows = top
+  least-greatest x (suc k) r top rows =
+      omega (arith, rows r (omega arith) (omega arith), least-greatest x k (suc r) top (λ i low high. rows i (omega arith) (omega arith)))
+
+  module _ (s : ℕ) where
+    pub bellman-high : bellman p v s ≤ giveUpCost p
+    unfolding bellman
+    bellman-high = least-high (p .rowCount s) (p .firstRow s)
+
+    pub bellman-under : (r : ℕ) → p .firstRow s ≤ r → r < endRow p s → bellman p v s ≤ rowValue p v r
+    unfolding bellman
+    bellman-under = least-under (p .rowCount s) (p .firstRow s)
+
+    pub bellman-greatest
+        : (x : ℕ) → x ≤ giveUpCost p → ((r : ℕ) → p .firstRow s ≤ r → r < endRow p s → x ≤ rowValue p v r) → x ≤ bellman p v s
+    unfolding bellman
+    bellman-greatest x = least-greatest x (p .rowCount s) (p .firstRow s)
+
+    landed-bellman : (c : Chosen) → Landed p v s c → bellman p v s ≤ c .best
+    landed-bellman c (at-giving-up e b) = omega (arith, bellman-high)
+    landed-bellman c (at-row own b less) = omega (arith, bellman-under (c .pick) (own-low p s (c .pick) own) (own-high p s (c .pick) own))
+
+    -- whatever was picked before, a choice's best is the Bellman backup
+    pub choice-bellman : (prev : ℕ) → choice p v s prev .best ≡ bellman p v s
+    choice-bellman prev =
+        le-antisymm (bellman-greatest (choice p v s prev .best) (choice-high p v s prev) (choice-under p v s prev))
+        (landed-bellman (choice p v s prev) (choice-landed p v s prev))

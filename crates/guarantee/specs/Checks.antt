@@ -1,0 +1,86 @@
+-- Question 14 is never answered no: in a sound machine the checked scan, backup, round and run are those of Rounds.antt.
+-- Every row value fits while the machine is sound, and every backup keeps it sound; by induction on rows, list and budget.
+use mathlib.Core.Path.{_≡_, refl}
+use Prim.Native.Nat.{ℕ, zero, suc, _+_, _≤_, _<_}
+use native.Mathlib.Omega.{arith}
+use mathlib.Core.Bool.{Bool, true, false, not}
+use mathlib.Core.List.{List, [], _∷_}
+use lib.Dec.{leb, eqb}
+use lib.ListN.{getD}
+use borrow.Author.Tests.{lt-ltb}
+use Rattle.model.specs.Problem.{Problem, ownRow}
+use Rattle.model.specs.Value.{entry}
+use Rattle.model.specs.Walk.{In, here, there, walk}
+use Rattle.model.specs.Rounds.{Found, Machine, considerOn, consider, considerIf, scanFrom, scan, scanStart, scanOf}
+use Rattle.model.specs.Rounds.{backup, backups, walked, round, runFrom}
+use Rattle.model.specs.Solution.{fine, checkedEvaluate, checkedConsiderOn, checkedConsider, checkedConsiderIf, checkedScanFrom}
+use Rattle.model.specs.Solution.{checkedScan, checkedBackup, checkedBackups, checkedRound, checkedRunFrom}
+use Rattle.guarantee.specs.Formed.{WellFormed}
+use Rattle.guarantee.specs.Walks.{rows-within}
+use Rattle.guarantee.specs.Rows.{own-high, row-of-file}
+use Rattle.guarantee.specs.Sound.{Sound, evaluation-fits, backup-sound}
+use Rattle.guarantee.specs.Backups.{Open, walk-opens, walked-sound, round-sound}
+
+module _ (p : Problem) (formed : WellFormed p) where
+  -- the rows of one backup
+  module _ (m : Machine) (sound : Sound p m) where
+    pub checked-consider : (r : ℕ) (a : Found) → r < p .rows → checkedConsider p r m a ≡ fine (consider p (entry (m .values)) r a)
+    unfolding checkedConsider checkedConsiderOn checkedEvaluate consider considerOn
+    checked-consider r a l = go (leb (a .best) (getD (a .remembered) r 0))
+      where
+        go : (b : Bool) → checkedConsiderOn b p r m a ≡ fine (considerOn b p (entry (m .values)) r a)
+        go true = refl
+        go false = rw (lt-ltb _ _ (evaluation-fits p formed m sound r l)) refl
+
+    pub checked-if
+        : (b : Bool) (r : ℕ) (a : Found) → (b ≡ true → r < p .rows)
+        → checkedConsiderIf b p r m a ≡ fine (considerIf b p (entry (m .values)) r a)
+    unfolding checkedConsiderIf considerIf
+    checked-if true r a l = checked-consider r a (l refl)
+    checked-if false r a l = refl
+
+    pub checked-from
+        : (prev r k : ℕ) (a : Found) → r + k ≤ p .rows → checkedScanFrom p m prev r k a ≡ fine (scanFrom p (entry (m .values)) prev r k a)
+    unfolding checkedScanFrom scanFrom
+    checked-from prev r zero a h = refl
+    checked-from prev r (suc k) a h =
+        rw (checked-if (not (eqb r prev)) r a (λ e. omega arith))
+        (checked-from prev (suc r) k (considerIf (not (eqb r prev)) p (entry (m .values)) r a) (omega arith))
+
+    pub checked-scan : (s : ℕ) → s < p .states → checkedScan p m s (getD (m .picks) s 0) ≡ fine (scanOf p s m)
+    unfolding checkedScan scan
+    checked-scan s l =
+        let prev = getD (m .picks) s 0 in
+        rw (checked-if (ownRow p s prev) prev (scanStart p m) (λ o. row-of-file p formed s prev l (own-high p s prev o)))
+        (checked-from prev (p .firstRow s) (p .rowCount s) _ (rows-within p formed s l))
+
+    pub checked-backup : (e s : ℕ) → s < p .states → checkedBackup p e s m ≡ fine (backup p e s m)
+    unfolding checkedBackup backup
+    checked-backup e s l = rw (checked-scan s l) refl
+
+  pub checked-backups
+      : (e : ℕ) (l : List ℕ) (m : Machine) → ((s : ℕ) → In s l → Open p s) → Sound p m → checkedBackups p e l m ≡ fine (backups p e l m)
+  unfolding checkedBackups backups
+  checked-backups e [] m opens sound = refl
+  checked-backups e (s ∷ l) m opens sound =
+      let o = opens s here in
+      rw (checked-backup m sound e s (o .state))
+      (checked-backups e l (backup p e s m) (λ t i. opens t (there i)) (backup-sound p formed s m (o .state) sound e (o .no-goal)))
+
+  pub checked-round : (e : ℕ) (m : Machine) → Sound p m → checkedRound p e m ≡ fine (round p e m)
+  unfolding checkedRound round
+  checked-round e m sound =
+      let picks = entry (m .picks) in
+      checked-backups e (walk p picks .list) (walked p m) (walk-opens p formed picks) (walked-sound p formed e m sound)
+
+  -- "At an evaluation: does the row value fit in 32 bits?" Always: the run with that check is the run without
+  pub checked-run
+      : (e budget : ℕ) (going : Bool) (n : ℕ) (m : Machine) → Sound p m
+      → checkedRunFrom p e budget going n m ≡ fine (runFrom p e budget going n m)
+  unfolding checkedRunFrom runFrom
+  checked-run e zero true n m sound = refl
+  checked-run e zero false n m sound = refl
+  checked-run e (suc budget) false n m sound = refl
+  checked-run e (suc budget) true n m sound =
+      rw (checked-round e m sound)
+      (checked-run e budget (round p e m .moved) (suc n) (round p e m) (round-sound p formed e m sound))

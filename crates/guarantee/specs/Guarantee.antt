@@ -1,0 +1,166 @@
+-- What is promised of document 01's rules: each sentence of the demands is quoted over the theorem that it is. Nothing has to be believed
+-- but the model; `Met` below, and `Accepts` and `machineOf` of other files, are all that the statements add. A proof is a line that cites.
+use mathlib.Core.Path.{_≡_}
+use Prim.Native.Nat.{ℕ, _+_, _-_, _*_, _≤_, _<_}
+use mathlib.Core.Bool.{true, false}
+use mathlib.Core.Logic.{_↔_}
+use mathlib.Core.List.{List, [], _∷_}
+use lib.ListN.{getD, length}
+use Rattle.model.specs.Problem.{Problem, giveUpCost}
+use Rattle.model.specs.Value.{entry, rowValue}
+use Rattle.model.specs.Sections.{problemOf}
+use Rattle.model.specs.Questions.{passes, fails, _then_, fileQuestions}
+use Rattle.model.specs.Walk.{In, walk, Reached}
+use Rattle.model.specs.Rounds.{Machine, scanOf, backup, backups, walked, round, machineStart, runOf, bellman}
+use Rattle.model.specs.Solution.{Tables, solved, refused, solveQuestions, solution}
+use Rattle.model.specs.Audit.{accepted, audit}
+use Rattle.model.specs.Cover.{Choice, Cover, planOf, allowance, openTo}
+use Rattle.guarantee.specs.WellFormed.{well-formed}
+use Rattle.guarantee.specs.Walks.{reached-marked, walk-whole, listed-reached, listed-open, reached-listed, listed-places}
+use Rattle.guarantee.specs.Accepted.{Accepts, audit-exactly}
+use Rattle.guarantee.specs.Closeness.{audit-lower, audit-close}
+use Rattle.guarantee.specs.Sound.{best-is-bellman, values-rise as backup-rises}
+use Rattle.guarantee.specs.Backups.{machineOf, run-keeps}
+use Rattle.guarantee.specs.Underway.{Underway, turn-open, underway-start, underway-walked, underway-backup, scan-any-memory}
+use Rattle.guarantee.specs.Solutions.{lent-sound, solution-ends, refused-by, never-fourteen, answer-accepted}
+
+-- Demand 3: "Take any file, table V and plan that the audit accepts; e is the file's tolerance and C the least cost on the plan, both in
+-- ticks."
+module _ (f values picks : List ℕ) (C : ℕ) (said : audit f values picks ≡ accepted C) where
+  -- "For every whole K of at least 1, every cover, in K-ths of a tick, of every plan for that file has at the start at least K × V(start)."
+  pub closeness-lower
+      : (K : ℕ) → 1 ≤ K → (plan : ℕ → Choice) (u : ℕ → ℕ) (set : ℕ → Type 0) → Cover (problemOf f) K plan u set
+      → K * entry values (problemOf f .start) ≤ u (problemOf f .start)
+  closeness-lower = audit-lower f values picks C said
+
+  -- "And C × V covers the accepted plan in (C − e)-ths."
+  pub closeness-upper
+      : Cover (problemOf f) (C - problemOf f .tolerance) (planOf (problemOf f) (entry picks)) (λ s. C * entry values s)
+      (Reached (problemOf f) (entry picks))
+  closeness-upper = audit-close f values picks C said .upper
+
+  -- these are no empty words: C is above e
+  pub closeness-positive : 1 ≤ C - problemOf f .tolerance
+  closeness-positive = audit-close f values picks C said .positive
+
+-- Demand 2: "the audit accepts exactly when its questions all say yes". The record `Accepts` tells 16 to 19 in plain facts
+pub exactly
+    : (f values picks : List ℕ) (C : ℕ)
+    → (audit f values picks ≡ accepted C)
+    ↔ ((fileQuestions f ≡ passes) × (problemOf f .states ≤ length values) × (problemOf f .states ≤ length picks)
+    × Accepts (problemOf f) (entry values) (entry picks) C)
+exactly = audit-exactly
+
+-- Demand 3: "Whatever the file and the lent tables hold, if questions 1 to 13 say yes, a run of the rounds of document 01 given at least
+-- (A + 1) × (n + 1) rounds ends solved, A being the file's rise allowance and n the number of its states that aren't goals."
+pub ending
+    : (f : List ℕ) (budget : ℕ) (t : Tables) → fileQuestions f ≡ passes → solveQuestions (problemOf f) budget t ≡ passes
+    → (allowance (problemOf f) + 1) * (openTo (problemOf f) (problemOf f .states) + 1) ≤ budget
+    → (rounds : ℕ) × (evaluations : ℕ) × (C : ℕ) × (solution f budget t .answer ≡ solved rounds evaluations C)
+    × (rounds ≤ (allowance (problemOf f) + 1) * (openTo (problemOf f) (problemOf f .states) + 1))
+ending f budget t file lent room =
+    let run = solution-ends f budget t file lent room in (run .rounds, run .evaluations, run .least, run .ends, run .within)
+
+-- Demand 3: "Whenever a run of these rounds ends solved, at whatever budget, the audit accepts that file with the values and picks the run
+-- left, and gives the run's C."
+pub acceptance
+    : (f : List ℕ) (budget : ℕ) (t : Tables) (rounds evaluations C : ℕ) → solution f budget t .answer ≡ solved rounds evaluations C
+    → audit f (solution f budget t .tables .values) (solution f budget t .tables .picks) ≡ accepted C
+acceptance = answer-accepted
+
+-- Demand 1: "the first failed question of document 01 with its place, lent tables unchanged (save at 14)". The question is one of 1 to 13
+pub refusal
+    : (f : List ℕ) (budget : ℕ) (t : Tables) (q i : ℕ) → solution f budget t .answer ≡ refused q i
+    → ((fileQuestions f then solveQuestions (problemOf f) budget t) ≡ fails q i) × (solution f budget t .tables ≡ t)
+refusal f budget t q i h = let by = refused-by f budget t q i h in (by .failed, by .left)
+
+-- and number 14 never comes
+pub never-overflows : (f : List ℕ) (budget : ℕ) (t : Tables) (r : ℕ) → solution f budget t .answer ≡ refused 14 r → ⊥
+never-overflows = never-fourteen
+
+-- The machines that the run of a problem from lent tables meets, with the states that are still to be backed up in their round: at first;
+-- after the walk of a round, with the whole list; after the backup of the state whose turn it is, with the states behind it.
+pub data Met (p : Problem) (t : Tables) : List ℕ → Machine → Type 0 where
+  starts : Met p t [] (machineStart p (t .values) (t .picks) (t .remembered))
+  walks : {m : Machine} → Met p t [] m → Met p t (walk p (entry (m .picks)) .list) (walked p m)
+  backs-up : {s : ℕ} {rest : List ℕ} {m : Machine} → Met p t (s ∷ rest) m → Met p t rest (backup p (p .tolerance) s m)
+
+backups-met : (p : Problem) (t : Tables) (l : List ℕ) (m : Machine) → Met p t l m → Met p t [] (backups p (p .tolerance) l m)
+unfolding backups
+backups-met p t [] m met = met
+backups-met p t (s ∷ l) m met = backups-met p t l (backup p (p .tolerance) s m) (backs-up met)
+
+round-met : (p : Problem) (t : Tables) (m : Machine) → Met p t [] m → Met p t [] (round p (p .tolerance) m)
+unfolding round
+round-met p t m met = backups-met p t (walk p (entry (m .picks)) .list) (walked p m) (walks met)
+
+-- whatever the budget, and so after each round, the run's machine is met
+pub run-met : (p : Problem) (t : Tables) (budget : ℕ) → Met p t [] (machineOf (runOf p budget (t .values) (t .picks) (t .remembered)))
+run-met p t budget = run-keeps p (p .tolerance) (λ n. Met p t []) (λ n. round-met p t) budget true 0 _ starts
+
+-- What holds on every round of a file and lent tables that pass questions 1 to 13.
+module _ (f : List ℕ) (budget : ℕ) (t : Tables) (file : fileQuestions f ≡ passes)
+    (lent : solveQuestions (problemOf f) budget t ≡ passes) where
+  underway : {rest : List ℕ} {m : Machine} → Met (problemOf f) t rest m → Underway (problemOf f) rest m
+  underway starts = underway-start (problemOf f) _ (lent-sound f budget t file lent)
+  underway (walks {m = m} met) = underway-walked (problemOf f) (well-formed f file) (problemOf f .tolerance) m (underway met)
+  underway (backs-up {s = s} {rest = rest} {m = m} met) =
+      underway-backup (problemOf f) (well-formed f file) (problemOf f .tolerance) s rest m (underway met)
+
+  -- Demand 2: "A solved or spent run equals, in values, moves and counts, the rounds of document 01, built on the Bellman backup". Best of
+  -- a backup is document 000's definition 4 under the values of that moment, with giving up as one more choice
+  pub built-on-bellman
+      : {s : ℕ} {rest : List ℕ} {m : Machine} → Met (problemOf f) t (s ∷ rest) m
+      → scanOf (problemOf f) s m .best ≡ bellman (problemOf f) (entry (m .values)) s
+  built-on-bellman {s = s} {m = m} met =
+      best-is-bellman (problemOf f) (well-formed f file) s m (turn-open (underway met) .state) (underway met .sound)
+
+  -- remembered values never exceed row values
+  pub remembered-low
+      : {rest : List ℕ} {m : Machine} → Met (problemOf f) t rest m → (r : ℕ) → r < problemOf f .rows
+      → getD (m .remembered) r 0 ≤ rowValue (problemOf f) (entry (m .values)) r
+  remembered-low met = underway met .sound .memory
+
+  -- a skipped row would not have been picked: by any other memory that is at most the row values, such as one of zeros, by which no row is
+  -- skipped, a scan ends at the same best and the same pick
+  pub skipped-not-picked
+      : {s : ℕ} {rest : List ℕ} {m : Machine} → Met (problemOf f) t (s ∷ rest) m → (m′ : Machine)
+      → m′ .values ≡ m .values → m′ .picks ≡ m .picks
+      → ((r : ℕ) → r < problemOf f .rows → getD (m′ .remembered) r 0 ≤ rowValue (problemOf f) (entry (m .values)) r)
+      → (scanOf (problemOf f) s m′ .best ≡ scanOf (problemOf f) s m .best)
+      × (scanOf (problemOf f) s m′ .pick ≡ scanOf (problemOf f) s m .pick)
+  skipped-not-picked {s = s} {m = m} met m′ =
+      scan-any-memory (problemOf f) (well-formed f file) s m m′ (turn-open (underway met) .state) (underway met .sound)
+
+  -- values only rise
+  pub values-rise
+      : {s : ℕ} {rest : List ℕ} {m : Machine} → Met (problemOf f) t (s ∷ rest) m → (x : ℕ)
+      → getD (m .values) x 0 ≤ getD (backup (problemOf f) (problemOf f .tolerance) s m .values) x 0
+  values-rise {s = s} {m = m} met =
+      backup-rises (problemOf f) (well-formed f file) s m (turn-open (underway met) .state) (underway met .sound) (problemOf f .tolerance)
+
+  -- and stay at most 1000 × D
+  pub values-high
+      : {rest : List ℕ} {m : Machine} → Met (problemOf f) t rest m → (s : ℕ) → s < problemOf f .states
+      → getD (m .values) s 0 ≤ giveUpCost (problemOf f)
+  values-high met = underway met .sound .high
+
+-- The walk of a file that passes questions 1 to 11, under any picks.
+module _ (f : List ℕ) (picks : ℕ → ℕ) (file : fileQuestions f ≡ passes) where
+  -- the marks are the reached states
+  pub marks-are-reached : (s : ℕ) → (getD (walk (problemOf f) picks .marks) s 0 ≡ 1) ↔ Reached (problemOf f) picks s
+  marks-are-reached s =
+      (walk-whole (problemOf f) (well-formed f file) picks .within s, reached-marked (problemOf f) (well-formed f file) picks s)
+
+  -- the list holds each reached state that is no goal, once
+  pub list-is-open-reached
+      : (s : ℕ) → In s (walk (problemOf f) picks .list) ↔ (Reached (problemOf f) picks s × (problemOf f .goal s ≡ false))
+  list-is-open-reached s = (
+    λ i. (listed-reached (problemOf f) (well-formed f file) picks s i, listed-open (problemOf f) (well-formed f file) picks s i),
+    λ h. reached-listed (problemOf f) (well-formed f file) picks s (h .0) (h .1),
+  )
+
+  pub list-holds-once
+      : (i j : ℕ) → i < length (walk (problemOf f) picks .list) → j < length (walk (problemOf f) picks .list)
+      → getD (walk (problemOf f) picks .list) i 0 ≡ getD (walk (problemOf f) picks .list) j 0 → i ≡ j
+  list-holds-once = listed-places (problemOf f) (well-formed f file) picks

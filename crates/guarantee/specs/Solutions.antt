@@ -1,0 +1,207 @@
+-- Solving a file, told by its answer and the tables that are left: refusals leave the tables as lent, number 14 never comes, solved is
+-- accepted. With questions 1 to 13 answered yes the machine is sound from the start, so the checked run is the run of Rounds.antt.
+use mathlib.Core.Path.{_≡_, refl, sym, _∙_, ap}
+use Prim.Native.Nat.{ℕ, _+_, _*_, _≤_}
+use native.Mathlib.Omega.{arith}
+use mathlib.Core.Bool.{true, true≢false}
+use mathlib.Core.List.{List}
+use lib.Dec.{leb}
+use lib.ListN.{length}
+use borrow.Author.Tests.{leb-true}
+use Rattle.model.specs.Limits.{maxBudget}
+use Rattle.model.specs.Problem.{Problem}
+use Rattle.model.specs.Value.{entry}
+use Rattle.model.specs.Sections.{problemOf}
+use Rattle.model.specs.Questions.{Verdict, passes, fails, _then_, ask}
+use Rattle.model.specs.Questions.{fileQuestions}
+use Rattle.model.specs.Walk.{leastCost}
+use Rattle.model.specs.Cover.{allowance, openTo}
+use Rattle.model.specs.Rounds.{Machine, Ending, machineStart, runOf}
+use Rattle.model.specs.Solution.{fine, Tables, Answer, solved, spent, refused, tablesOf, solutionOf}
+use Rattle.model.specs.Solution.{solveQuestions, solutionOn, solution}
+use Rattle.model.specs.Audit.{accepted, audit}
+use Rattle.guarantee.specs.Searches.{then-first, then-next, ask-yes}
+use Rattle.guarantee.specs.Numbers.{early-questions, early-number}
+use Rattle.guarantee.specs.WellFormed.{well-formed}
+use Rattle.guarantee.specs.Sound.{Sound, start-sound}
+use Rattle.guarantee.specs.Checks.{checked-run}
+use Rattle.guarantee.specs.Ending.{solve-ends}
+use Rattle.guarantee.specs.Solved.{solved-passes-audit}
+
+-- what questions 12 and 13 give
+pub record Lent (p : Problem) (budget : ℕ) (t : Tables) : Type 0 where
+  pub values-long : p .states ≤ length (t .values)
+  pub picks-long : p .states ≤ length (t .picks)
+  pub remembered-long : p .rows ≤ length (t .remembered)
+  pub list-long : p .states ≤ length (t .walk-list)
+  pub budget-high : budget ≤ maxBudget
+
+-- an answer is solved, after at most `bound` rounds
+pub record SolvedWithin (bound : ℕ) (a : Answer) : Type 0 where
+  pub rounds : ℕ
+  pub evaluations : ℕ
+  pub least : ℕ
+  pub ends : a ≡ solved rounds evaluations least
+  pub within : rounds ≤ bound
+
+-- the run of a file with a budget from lent tables, with no check of question 14
+abbrev pub runWith : List ℕ → ℕ → Tables → Ending
+runWith f budget t = runOf (problemOf f) budget (t .values) (t .picks) (t .remembered)
+
+-- questions 1 to 13
+abbrev pub questions : List ℕ → ℕ → Tables → Verdict
+questions f budget t = fileQuestions f then solveQuestions (problemOf f) budget t
+
+-- what an answer "solved" comes from
+pub record SolvedBy (f : List ℕ) (budget : ℕ) (t : Tables) (n e C : ℕ) : Type 0 where
+  pub file : fileQuestions f ≡ passes
+  pub lent : solveQuestions (problemOf f) budget t ≡ passes
+  pub machine : Machine
+  pub run : runWith f budget t ≡ Ending.solved n machine
+  pub evaluations : machine .evaluations ≡ e
+  pub least : leastCost (problemOf f) (entry (machine .picks)) ≡ C
+  pub left : solution f budget t .tables ≡ tablesOf (problemOf f) (t .walk-list) machine
+
+-- what a refusal comes from
+pub record RefusedBy (f : List ℕ) (budget : ℕ) (t : Tables) (q i : ℕ) : Type 0 where
+  pub failed : questions f budget t ≡ fails q i
+  pub left : solution f budget t .tables ≡ t
+
+-- the two ways of solving a file: a question fails, or the rounds are run
+pub data Told (f : List ℕ) (budget : ℕ) (t : Tables) : Type 0 where
+  turned-down
+      : (q i : ℕ) → questions f budget t ≡ fails q i → solution f budget t ≡ record { answer = refused q i; tables = t } → Told f budget t
+  ran
+      : fileQuestions f ≡ passes → solveQuestions (problemOf f) budget t ≡ passes
+      → solution f budget t ≡ solutionOf (problemOf f) (t .walk-list) (fine (runWith f budget t)) → Told f budget t
+
+pub lent-long : (p : Problem) (budget : ℕ) (t : Tables) → solveQuestions p budget t ≡ passes → Lent p budget t
+unfolding solveQuestions
+lent-long p budget t h =
+    let q₀ = ask 12 0 (leb (p .states) (length (t .values))) in
+    let q₁ = ask 12 1 (leb (p .states) (length (t .picks))) in
+    let q₂ = ask 12 2 (leb (p .rows) (length (t .remembered))) in
+    let q₃ = ask 12 3 (leb (p .states) (length (t .walk-list))) in
+    let q₄ = ask 13 0 (leb budget maxBudget) in
+    let h₁ = then-next q₀ (q₁ then q₂ then q₃ then q₄) h in
+    let h₂ = then-next q₁ (q₂ then q₃ then q₄) h₁ in
+    let h₃ = then-next q₂ (q₃ then q₄) h₂ in
+    record {
+      values-long = leb-true _ _ (ask-yes 12 0 _ (then-first q₀ (q₁ then q₂ then q₃ then q₄) h));
+      picks-long = leb-true _ _ (ask-yes 12 1 _ (then-first q₁ (q₂ then q₃ then q₄) h₁));
+      remembered-long = leb-true _ _ (ask-yes 12 2 _ (then-first q₂ (q₃ then q₄) h₂));
+      list-long = leb-true _ _ (ask-yes 12 3 _ (then-first q₃ q₄ h₃));
+      budget-high = leb-true _ _ (ask-yes 13 0 _ (then-next q₃ q₄ h₃));
+    }
+
+-- With questions 1 to 13 answered yes.
+module _ (f : List ℕ) (budget : ℕ) (t : Tables) (file : fileQuestions f ≡ passes)
+    (lent : solveQuestions (problemOf f) budget t ≡ passes) where
+  pub lent-sound : Sound (problemOf f) (machineStart (problemOf f) (t .values) (t .picks) (t .remembered))
+  lent-sound =
+      let long = lent-long (problemOf f) budget t lent in
+      start-sound (problemOf f) (well-formed f file) (t .values) (t .picks) (t .remembered) (long .values-long) (long .picks-long)
+      (long .remembered-long)
+
+  -- the solution is that of the run with no check
+  pub solution-run : solution f budget t ≡ solutionOf (problemOf f) (t .walk-list) (fine (runWith f budget t))
+  unfolding solution solutionOn
+  solution-run =
+      let p = problemOf f in
+      rw (file, lent) (ap (solutionOf p (t .walk-list)) (checked-run p (well-formed f file) (p .tolerance) budget true 0 _ lent-sound))
+
+  -- "given at least (A + 1) × (n + 1) rounds ends solved"
+  pub solution-ends
+      : (allowance (problemOf f) + 1) * (openTo (problemOf f) (problemOf f .states) + 1) ≤ budget
+      → SolvedWithin ((allowance (problemOf f) + 1) * (openTo (problemOf f) (problemOf f .states) + 1)) (solution f budget t .answer)
+  unfolding solutionOf
+  solution-ends room =
+      let p = problemOf f in
+      let long = lent-long p budget t lent in
+      let run = solve-ends p (well-formed f file) (t .values) (t .picks) (t .remembered) (long .values-long) (long .picks-long)
+      (long .remembered-long) budget room in
+      record {
+        rounds = run .rounds;
+        evaluations = run .machine .evaluations;
+        least = leastCost p (entry (run .machine .picks));
+        ends = rw (solution-run, run .ends) refl;
+        within = run .within;
+      }
+
+-- "A no ends the call with the number and a place; no table has changed"
+pub solution-refused
+    : (f : List ℕ) (budget : ℕ) (t : Tables) (q i : ℕ) → questions f budget t ≡ fails q i
+    → solution f budget t ≡ record { answer = refused q i; tables = t }
+unfolding solution solutionOn
+solution-refused f budget t q i failed = rw failed refl
+
+module _ (f : List ℕ) (budget : ℕ) (t : Tables) where
+  pub told : Told f budget t
+  told = go (questions f budget t) refl
+    where
+      go : (v : Verdict) → questions f budget t ≡ v → Told f budget t
+      go passes e =
+          let file = then-first (fileQuestions f) _ e in
+          let lent = then-next (fileQuestions f) _ e in
+          ran file lent (solution-run f budget t file lent)
+      go (fails q i) e = turned-down q i e (solution-refused f budget t q i e)
+
+  -- a refusal is that of the first of questions 1 to 13 that fails, and leaves every table as lent
+  pub refused-by : (q i : ℕ) → solution f budget t .answer ≡ refused q i → RefusedBy f budget t q i
+  unfolding solutionOf
+  refused-by q i h = go told
+    where
+      on : (run : Ending) → runWith f budget t ≡ run → solutionOf (problemOf f) (t .walk-list) (fine run) .answer ≡ refused q i
+          → RefusedBy f budget t q i
+      on (Ending.solved n m) e h = absurd (true≢false (cc))
+      on (Ending.spent n m) e h = absurd (true≢false (cc))
+
+      go : Told f budget t → RefusedBy f budget t q i
+      go (turned-down q′ i′ e is) =
+          let same : refused q′ i′ ≡ refused q i = sym (ap (λ x. x .answer) is) ∙ h in
+          record { failed = e ∙ cc; left = ap (λ x. x .tables) is }
+      go (ran file lent is) = on (runWith f budget t) refl (rw is at h)
+
+  -- an answer "solved" comes from a run that ends solved
+  pub solved-by : (n e C : ℕ) → solution f budget t .answer ≡ solved n e C → SolvedBy f budget t n e C
+  unfolding solutionOf
+  solved-by n e C h = go told
+    where
+      on : fileQuestions f ≡ passes → solveQuestions (problemOf f) budget t ≡ passes → (run : Ending) → runWith f budget t ≡ run
+          → solution f budget t ≡ solutionOf (problemOf f) (t .walk-list) (fine run) → SolvedBy f budget t n e C
+      on file lent (Ending.solved k m) run is =
+          let least = leastCost (problemOf f) (entry (m .picks)) in
+          let same : solved k (m .evaluations) least ≡ solved n e C = sym (ap (λ x. x .answer) is) ∙ h in
+          record {
+            file = file;
+            lent = lent;
+            machine = m;
+            run = run ∙ ap (λ j. Ending.solved j m) (cc);
+            evaluations = cc;
+            least = cc;
+            left = ap (λ x. x .tables) is;
+          }
+      on file lent (Ending.spent k m) run is =
+          let never : spent k (m .evaluations) ≡ solved n e C = sym (ap (λ x. x .answer) is) ∙ h in
+          absurd (true≢false (cc))
+
+      go : Told f budget t → SolvedBy f budget t n e C
+      go (turned-down q i failed is) =
+          let never : refused q i ≡ solved n e C = sym (ap (λ x. x .answer) is) ∙ h in
+          absurd (true≢false (cc))
+      go (ran file lent is) = on file lent (runWith f budget t) refl is
+
+  -- number 14 never comes
+  pub never-fourteen : (r : ℕ) → solution f budget t .answer ≡ refused 14 r → ⊥
+  never-fourteen r h = omega (arith, early-number (early-questions f budget t) 14 r (refused-by 14 r h .failed))
+
+  -- whatever the budget: the audit accepts what a solved run left, and gives the run's C
+  pub answer-accepted
+      : (n e C : ℕ) → solution f budget t .answer ≡ solved n e C
+      → audit f (solution f budget t .tables .values) (solution f budget t .tables .picks) ≡ accepted C
+  answer-accepted n e C h =
+      let by = solved-by n e C h in
+      let long = lent-long (problemOf f) budget t (by .lent) in
+      rw (by .left)
+      (solved-passes-audit f (t .values) (t .picks) (t .remembered) (by .file) (long .values-long) (long .picks-long) (long .remembered-long)
+      budget n (by .machine) (by .run) ∙ ap accepted (by .least))

@@ -1,0 +1,172 @@
+-- A solved run is accepted: questions 16 to 19 say yes of its values and picks.
+-- In its last round nothing rose and no pick changed, so each listed state was backed up under the final values and the final picks.
+use mathlib.Core.Path.{_≡_, refl, sym, _∙_, ap}
+use Prim.Native.Nat.{ℕ, _+_, _≤_, _<_}
+use native.Mathlib.Omega.{arith}
+use mathlib.Core.Bool.{true, false, true≢false}
+use mathlib.Core.List.{List, [], _∷_}
+use mathlib.Core.Logic.{_⊎_, inl, inr, ⊎-elim}
+use lib.Dec.{eqb}
+use lib.ListN.{getD, length}
+use borrow.Author.Tests.{eqb-false, eq-eqb, ne-eqb}
+use Rattle.model.specs.Limits.{giveUp}
+use Rattle.model.specs.Problem.{Problem, ownRow}
+use Rattle.model.specs.Value.{entry}
+use Rattle.model.specs.Walk.{In, here, there, walk, leastCost}
+use Rattle.model.specs.Sections.{problemOf}
+use Rattle.model.specs.Questions.{passes, fileQuestions}
+use Rattle.model.specs.Rounds.{Machine, scanOf, backup, backups, walked, round, solved, machineStart, runOf}
+use Rattle.model.specs.Audit.{accepted, pickValue, tableQuestions, audit}
+use Rattle.guarantee.specs.Formed.{WellFormed}
+use Rattle.guarantee.specs.WellFormed.{well-formed}
+use Rattle.guarantee.specs.Graphs.{in-cons, in-nil}
+use Rattle.guarantee.specs.Walks.{marked-reached, reached-listed}
+use Rattle.guarantee.specs.Rows.{row-no-mark}
+use Rattle.guarantee.specs.Choosing.{Chosen, choice, Landed, at-giving-up, at-row, choice-landed}
+use Rattle.guarantee.specs.Sound.{Sound, start-sound, scan-law, backup-sound}
+use Rattle.guarantee.specs.Backups.{Open, Backed, rose, turned, rested}
+use Rattle.guarantee.specs.Backups.{backed, walk-opens, walked-sound, round-sound, round-list, run-quiet}
+use Rattle.guarantee.specs.Accepted.{Accepts, accepted-table, yes-audit}
+
+-- a state that is at rest with tolerance e: its choice is its pick, and V(s) lies less than e below best
+pub record Rests (p : Problem) (e : ℕ) (values picks : List ℕ) (s : ℕ) : Type 0 where
+  pub same : choice p (entry values) s (getD picks s 0) .pick ≡ getD picks s 0
+  pub close : choice p (entry values) s (getD picks s 0) .best < getD values s 0 + e
+
+-- backups from m to m′ along l that moved nothing
+pub record Still (p : Problem) (e : ℕ) (l : List ℕ) (m m′ : Machine) : Type 0 where
+  pub unmoved : m .moved ≡ false
+  pub values : m′ .values ≡ m .values
+  pub picks : m′ .picks ≡ m .picks
+  pub rests : (s : ℕ) → In s l → Rests p e (m .values) (m .picks) s
+
+module _ (p : Problem) (formed : WellFormed p) (e : ℕ) where
+  backup-still : (s : ℕ) (m : Machine) → Open p s → Sound p m → backup p e s m .moved ≡ false → Still p e (s ∷ []) m (backup p e s m)
+  backup-still s m o sound quiet = go (backed p e s m)
+    where
+      ends : (scanOf p s m .best ≡ choice p (entry (m .values)) s (getD (m .picks) s 0) .best)
+          × (scanOf p s m .pick ≡ choice p (entry (m .values)) s (getD (m .picks) s 0) .pick)
+      ends = let law = scan-law p formed s m (o .state) sound .ends in (ap (λ c. c .best) law, ap (λ c. c .pick) law)
+
+      go : Backed p e s m → Still p e (s ∷ []) m (backup p e s m)
+      go (rose rise stores moved) = absurd (true≢false (sym moved ∙ quiet))
+      go (turned turns stays moved) = absurd (true≢false (sym moved ∙ quiet))
+      go (rested close same values picks moved) =
+          let here : Rests p e (m .values) (m .picks) s = record { same = sym (ends .1) ∙ same; close = omega (arith, ends .0) } in
+          record {
+            unmoved = sym moved ∙ quiet;
+            values = values;
+            picks = picks;
+            rests = λ t i. ⊎-elim (λ at. rw at here) (λ j. absurd (in-nil j)) (in-cons i);
+          }
+
+  pub backups-still
+      : (l : List ℕ) (m : Machine) → ((s : ℕ) → In s l → Open p s) → Sound p m → backups p e l m .moved ≡ false
+      → Still p e l m (backups p e l m)
+  unfolding backups
+  backups-still [] m opens sound quiet = record { unmoved = quiet; values = refl; picks = refl; rests = λ s i. absurd (in-nil i) }
+  backups-still (s ∷ l) m opens sound quiet =
+      let o = opens s here in
+      let after = backup-sound p formed s m (o .state) sound e (o .no-goal) in
+      let rest = backups-still l (backup p e s m) (λ t i. opens t (there i)) after quiet in
+      let one = backup-still s m o sound (rest .unmoved) in
+      record {
+        unmoved = one .unmoved;
+        values = rest .values ∙ one .values;
+        picks = rest .picks ∙ one .picks;
+        rests = λ t i. ⊎-elim (λ at. one .rests t (rw at here)) (λ j. rw (one .values, one .picks) at (rest .rests t j)) (in-cons i);
+      }
+
+  -- a quiet round: values and picks stay, and every listed state rests
+  pub round-still
+      : (m : Machine) → Sound p m → round p e m .moved ≡ false → Still p e (walk p (entry (m .picks)) .list) (walked p m) (round p e m)
+  unfolding round
+  round-still m sound quiet =
+      let picks = entry (m .picks) in
+      backups-still (walk p picks .list) (walked p m) (walk-opens p formed picks) (walked-sound p formed e m sound) quiet
+
+-- where a choice landed on the pick, the pick is an own row or giving up, and its value is the choice's best
+module _ (p : Problem) (v picks : ℕ → ℕ) (s : ℕ) (c : Chosen) where
+  landed-fits : Landed p v s c → c .pick ≡ picks s → (picks s ≡ giveUp) ⊎ (ownRow p s (picks s) ≡ true)
+  landed-fits (at-giving-up q b) same = inl (sym same ∙ q)
+  landed-fits (at-row own b less) same = inr (rw (← same) own)
+
+  landed-value : WellFormed p → s < p .states → Landed p v s c → c .pick ≡ picks s → pickValue p v picks s ≡ c .best
+  unfolding pickValue
+  landed-value formed l (at-giving-up q b) same = rw (eq-eqb (picks s) giveUp (sym same ∙ q)) (sym b)
+  landed-value formed l (at-row own b less) same =
+      rw (ne-eqb (picks s) giveUp (λ z. omega (arith, row-no-mark p formed s (c .pick) l own))) (rw (← same) (sym b))
+
+-- sound tables whose listed states rest are accepted
+module _ (p : Problem) (formed : WellFormed p) (m : Machine) (sound : Sound p m)
+    (rests : (s : ℕ) → In s (walk p (entry (m .picks)) .list) → Rests p (p .tolerance) (m .values) (m .picks) s) where
+  marked-rests
+      : (s : ℕ) → p .goal s ≡ false → eqb (getD (walk p (entry (m .picks)) .marks) s 0) 0 ≡ false
+      → Rests p (p .tolerance) (m .values) (m .picks) s
+  marked-rests s no-goal marked =
+      rests s (reached-listed p formed (entry (m .picks)) s (marked-reached p formed (entry (m .picks)) s (eqb-false _ _ marked)) no-goal)
+
+  pub resting-accepted : Accepts p (entry (m .values)) (entry (m .picks)) (leastCost p (entry (m .picks)))
+  resting-accepted =
+      let v = entry (m .values) in
+      let picks = entry (m .picks) in
+      record {
+        goal-zero = sound .goal-values;
+        value-high = λ s l g. sound .high s l;
+        no-undercut = sound .under;
+        pick-fits = λ s l g marked. landed-fits p v picks s _ (choice-landed p v s (picks s)) (marked-rests s g marked .same);
+        pick-close =
+            λ s l g marked.
+            let at = marked-rests s g marked in
+            omega (arith, at .close, landed-value p v picks s _ formed l (choice-landed p v s (picks s)) (at .same));
+        least = refl;
+      }
+
+-- the end of a solved run
+pub record Final (p : Problem) (m : Machine) : Type 0 where
+  pub sound : Sound p m
+  pub listed : m .list ≡ walk p (entry (m .picks)) .list
+  pub accepts : Accepts p (entry (m .values)) (entry (m .picks)) (leastCost p (entry (m .picks)))
+
+quiet-final : (p : Problem) → WellFormed p → (m : Machine) → Sound p m → round p (p .tolerance) m .moved ≡ false
+    → Final p (round p (p .tolerance) m)
+quiet-final p formed m sound quiet =
+    let still = round-still p formed (p .tolerance) m sound quiet in
+    record {
+      sound = round-sound p formed (p .tolerance) m sound;
+      listed = round-list p (p .tolerance) m ∙ rw (still .picks) refl;
+      accepts = rw (still .values, still .picks) (resting-accepted p formed m sound (still .rests));
+    }
+
+-- whatever the budget
+module _ (p : Problem) (formed : WellFormed p) (values picks remembered : List ℕ)
+    (long-values : p .states ≤ length values) (long-picks : p .states ≤ length picks) (long-remembered : p .rows ≤ length remembered)
+    (budget k : ℕ) (m : Machine) (run : runOf p budget values picks remembered ≡ solved k m) where
+  -- a solved run's tables are sound and accepted, and its list is the walk of its picks
+  pub solved-final : Final p m
+  solved-final =
+      let start = machineStart p values picks remembered in
+      let sound = start-sound p formed values picks remembered long-values long-picks long-remembered in
+      let last = run-quiet p (p .tolerance) (λ n. Sound p) (λ n. round-sound p formed (p .tolerance)) budget 0 start k m sound run in
+      rw (last .ends) at (quiet-final p formed (last .before) (last .held) (last .quiet))
+
+  -- "the audit accepts that file with the values and picks the run left": questions 16 to 19
+  pub solved-accepted : tableQuestions p (entry (m .values)) (entry (m .picks)) ≡ accepted (leastCost p (entry (m .picks)))
+  solved-accepted = accepted-table p (entry (m .values)) (entry (m .picks)) _ (solved-final .accepts)
+
+-- of a file: a solved run's tables pass the audit of the same file, which gives the run's C
+pub solved-passes-audit
+    : (f values picks remembered : List ℕ) → fileQuestions f ≡ passes
+    → problemOf f .states ≤ length values → problemOf f .states ≤ length picks → problemOf f .rows ≤ length remembered
+    → (budget k : ℕ) (m : Machine) → runOf (problemOf f) budget values picks remembered ≡ solved k m
+    → audit f (m .values) (m .picks) ≡ accepted (leastCost (problemOf f) (entry (m .picks)))
+solved-passes-audit f values picks remembered file long-values long-picks long-remembered budget k m run =
+    let p = problemOf f in
+    let final = solved-final p (well-formed f file) values picks remembered long-values long-picks long-remembered budget k m run in
+    yes-audit f (m .values) (m .picks) (leastCost p (entry (m .picks)))
+    (record {
+      file-passes = file;
+      values-long = final .sound .values-length;
+      picks-long = final .sound .picks-length;
+      table-accepted = accepted-table p (entry (m .values)) (entry (m .picks)) _ (final .accepts);
+    })

@@ -1,0 +1,171 @@
+-- Sound tables, an invariant of every backup: values at most 1000 × D and at most every own row's value, memories at most row values.
+-- Values only rise, so row values only rise, so a remembered value stays a lower bound.
+use mathlib.Core.Path.{_≡_, refl, sym, _∙_, ap}
+use Prim.Native.Nat.{ℕ, _≤_, _<_}
+use native.Mathlib.Nat.{le-trans}
+use native.Mathlib.Omega.{arith}
+use mathlib.Core.Bool.{Bool, true, false, true≢false}
+use mathlib.Core.List.{List}
+use lib.ListN.{getD, length, length-set}
+use Rattle.model.specs.Limits.{giveUp, noPick, valueBound}
+use Rattle.model.specs.Problem.{Problem, giveUpCost, endRow, ownRow}
+use Rattle.model.specs.Value.{rowValue, entry}
+use Rattle.model.specs.Rounds.{Found, Machine, scanStart, scanOf, raiseOn, rises, settle, backup, machineStart, fillTo, bellman}
+use Rattle.guarantee.specs.Formed.{WellFormed}
+use Rattle.guarantee.specs.Values.{rowValue-rises-all, rowValue-same-states, rowValue-fits}
+use Rattle.guarantee.specs.Undercuts.{NoUndercut}
+use Rattle.guarantee.specs.Tables.{stored, fill-length, fill-entry}
+use Rattle.guarantee.specs.Rows.{row-of-file, row-no-mark}
+use Rattle.guarantee.specs.Choosing.{choice, Landed, at-giving-up, at-row, choice-landed}
+use Rattle.guarantee.specs.Scans.{Memory, chosen, Scanned, scanned}
+use Rattle.guarantee.specs.Bellman.{bellman-high, bellman-under, bellman-greatest, choice-bellman}
+
+-- what a picks table may hold at state s: nothing, giving up, or one of its own rows
+pub data Allowed (p : Problem) (s x : ℕ) : Type 0 where
+  no-pick : x ≡ noPick → Allowed p s x
+  gives-up : x ≡ giveUp → Allowed p s x
+  own-row : ownRow p s x ≡ true → Allowed p s x
+
+pub record Sound (p : Problem) (m : Machine) : Type 0 where
+  pub values-length : p .states ≤ length (m .values)
+  pub picks-length : p .states ≤ length (m .picks)
+  pub remembered-length : p .rows ≤ length (m .remembered)
+  pub goal-values : (s : ℕ) → s < p .states → p .goal s ≡ true → getD (m .values) s 0 ≡ 0
+  pub high : (s : ℕ) → s < p .states → getD (m .values) s 0 ≤ giveUpCost p
+  pub under : NoUndercut p (entry (m .values))
+  pub memory : Memory p (entry (m .values)) (m .remembered)
+  pub picked : (s : ℕ) → s < p .states → Allowed p s (getD (m .picks) s 0)
+  pub goal-picks : (s : ℕ) → s < p .states → p .goal s ≡ true → getD (m .picks) s 0 ≡ noPick
+
+-- what holds of every entry, and of best at s, holds of every entry after a backup
+pub raised : (P : ℕ → ℕ → Type 0) (b : Bool) (l : List ℕ) (s x : ℕ) → ((j : ℕ) → P j (getD l j 0)) → P s x
+    → (j : ℕ) → P j (getD (raiseOn b l s x) j 0)
+unfolding raiseOn
+raised P true l s x all one = stored P l s x all one
+raised P false l s x all one = all
+
+pub raise-length : (b : Bool) (l : List ℕ) (s x : ℕ) → length (raiseOn b l s x) ≡ length l
+unfolding raiseOn
+raise-length true l s x = length-set l s x
+raise-length false l s x = refl
+
+module _ (p : Problem) (formed : WellFormed p) where
+  -- "At first V = H, no state has a pick, and each row remembers its value under H": sound, whatever the lent tables hold
+  pub start-sound
+      : (values picks remembered : List ℕ) → p .states ≤ length values → p .states ≤ length picks → p .rows ≤ length remembered
+      → Sound p (machineStart p values picks remembered)
+  unfolding machineStart
+  start-sound values picks remembered long-values long-picks long-remembered =
+      record {
+        values-length = omega (arith, fill-length (p .estimate) values (p .states));
+        picks-length = omega (arith, fill-length (λ s. noPick) picks (p .states));
+        remembered-length = omega (arith, fill-length (rowValue p (p .estimate)) remembered (p .rows));
+        goal-values = λ s l g. at s l ∙ formed .goal-estimate s l g;
+        high = λ s l. rw (at s l) (formed .estimate-high s l);
+        under = λ s r l low top. rw (at s l, same r (row-of-file p formed s r l top)) (formed .estimate-under s r l low top);
+        memory = λ r l. omega (arith, fill-entry (rowValue p (p .estimate)) remembered (p .rows) r long-remembered l, same r l);
+        picked = λ s l. no-pick (fill-entry (λ s. noPick) picks (p .states) s long-picks l);
+        goal-picks = λ s l g. fill-entry (λ s. noPick) picks (p .states) s long-picks l;
+      }
+    where
+      at : (s : ℕ) → s < p .states → getD (fillTo (p .estimate) values (p .states)) s 0 ≡ p .estimate s
+      at s l = fill-entry (p .estimate) values (p .states) s long-values l
+
+      same : (r : ℕ) → r < p .rows → rowValue p (entry (fillTo (p .estimate) values (p .states))) r ≡ rowValue p (p .estimate) r
+      same r l = rowValue-same-states p formed _ _ at r l
+
+  -- number 14 never comes: in a sound machine every row value fits in 32 bits
+  pub evaluation-fits : (m : Machine) → Sound p m → (r : ℕ) → r < p .rows → rowValue p (entry (m .values)) r < valueBound
+  evaluation-fits m sound = rowValue-fits p formed (entry (m .values)) (sound .high)
+
+  -- so what the tables hold fits their widths: 32 bits for values and memories, 16 for picks
+  pub value-fits : (m : Machine) → Sound p m → (s : ℕ) → s < p .states → getD (m .values) s 0 < valueBound
+  value-fits m sound s l = omega (arith, sound .high s l, formed .penalty-high)
+
+  pub memory-fits : (m : Machine) → Sound p m → (r : ℕ) → r < p .rows → getD (m .remembered) r 0 < valueBound
+  memory-fits m sound r l = omega (arith, sound .memory r l, evaluation-fits m sound r l)
+
+  pub pick-fits : (m : Machine) → Sound p m → (s : ℕ) → s < p .states → getD (m .picks) s 0 ≤ giveUp
+  pick-fits m sound s l = go (sound .picked s l)
+    where
+      go : Allowed p s (getD (m .picks) s 0) → getD (m .picks) s 0 ≤ giveUp
+      go (no-pick e) = omega arith
+      go (gives-up e) = omega arith
+      go (own-row own) = omega (arith, row-no-mark p formed s (getD (m .picks) s 0) l own)
+
+  -- a scan in a sound machine
+  module _ (s : ℕ) (m : Machine) (state : s < p .states) (sound : Sound p m) where
+    pub scan-law : Scanned p (entry (m .values)) (scanStart p m) (scanOf p s m) (choice p (entry (m .values)) s (getD (m .picks) s 0))
+    unfolding choice
+    scan-law = scanned p (entry (m .values)) formed s (getD (m .picks) s 0) (scanStart p m) state (sound .memory)
+
+    -- "built on the Bellman backup": skipping and memory change nothing
+    pub best-is-bellman : scanOf p s m .best ≡ bellman p (entry (m .values)) s
+    best-is-bellman = ap (λ c. c .best) (scan-law .ends) ∙ choice-bellman p (entry (m .values)) s (getD (m .picks) s 0)
+
+    -- best is never below the value that stands
+    pub value-below-best : getD (m .values) s 0 ≤ scanOf p s m .best
+    value-below-best =
+        rw best-is-bellman
+        (bellman-greatest p (entry (m .values)) s (getD (m .values) s 0) (sound .high s state) (λ r. sound .under s r state))
+
+    pub best-high : scanOf p s m .best ≤ giveUpCost p
+    best-high = rw best-is-bellman (bellman-high p (entry (m .values)) s)
+
+    pub best-under : (r : ℕ) → p .firstRow s ≤ r → r < endRow p s → scanOf p s m .best ≤ rowValue p (entry (m .values)) r
+    best-under r low top = rw best-is-bellman (bellman-under p (entry (m .values)) s r low top)
+
+    pub scan-landed : Landed p (entry (m .values)) s (chosen (scanOf p s m))
+    scan-landed = rw (scan-law .ends) (choice-landed p (entry (m .values)) s (getD (m .picks) s 0))
+
+    -- values only rise
+    pub values-rise : (e : ℕ) (t : ℕ) → getD (m .values) t 0 ≤ getD (backup p e s m .values) t 0
+    unfolding backup settle
+    values-rise e =
+        let a = scanOf p s m in
+        raised (λ t x. getD (m .values) t 0 ≤ x) (rises e s m a) (m .values) s (a .best) (λ t. omega arith) value-below-best
+
+    -- so row values only rise
+    pub row-values-rise : (e r : ℕ) → rowValue p (entry (m .values)) r ≤ rowValue p (entry (backup p e s m .values)) r
+    row-values-rise e = rowValue-rises-all p (entry (m .values)) (entry (backup p e s m .values)) (values-rise e)
+
+    pub pick-allowed : Allowed p s (scanOf p s m .pick)
+    pick-allowed = go scan-landed
+      where
+        go : Landed p (entry (m .values)) s (chosen (scanOf p s m)) → Allowed p s (scanOf p s m .pick)
+        go (at-giving-up e b) = gives-up e
+        go (at-row own b less) = own-row own
+
+    -- every backup of a state that is no goal keeps a machine sound, whatever the tolerance
+    pub backup-sound : (e : ℕ) → p .goal s ≡ false → Sound p (backup p e s m)
+    unfolding backup settle
+    backup-sound e no-goal =
+        record {
+          values-length = rw (raise-length b (m .values) s x) (sound .values-length);
+          picks-length = rw (length-set (m .picks) s (a .pick)) (sound .picks-length);
+          remembered-length = rw (scan-law .size) (sound .remembered-length);
+          goal-values =
+              λ t. raised (λ t y. t < p .states → p .goal t ≡ true → y ≡ 0) b (m .values) s x (sound .goal-values)
+              (λ l g. absurd (true≢false (sym g ∙ no-goal))) t;
+          high = λ t. raised (λ t y. t < p .states → y ≤ giveUpCost p) b (m .values) s x (sound .high) (λ l. best-high) t;
+          under =
+              λ t r l low top.
+              le-trans
+              (raised (λ t y. (r : ℕ) → t < p .states → p .firstRow t ≤ r → r < endRow p t → y ≤ rowValue p (entry (m .values)) r)
+              b (m .values) s x (λ t r. sound .under t r) (λ r l. best-under r) t r l low top)
+              (row-values-rise e r);
+          memory = λ r l. le-trans (scan-law .memory r l) (row-values-rise e r);
+          picked = λ t. stored (λ t y. t < p .states → Allowed p t y) (m .picks) s (a .pick) (sound .picked) (λ l. pick-allowed) t;
+          goal-picks =
+              λ t. stored (λ t y. t < p .states → p .goal t ≡ true → y ≡ noPick) (m .picks) s (a .pick) (sound .goal-picks)
+              (λ l g. absurd (true≢false (sym g ∙ no-goal))) t;
+        }
+      where
+        a : Found
+        a = scanOf p s m
+
+        b : Bool
+        b = rises e s m a
+
+        x : ℕ
+        x = a .best

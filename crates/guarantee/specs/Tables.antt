@@ -1,0 +1,55 @@
+-- Laws of tables, read with default 0: what holds of all entries after a store, and what a filled table holds.
+-- No index bound is asked where a store beyond the end changes nothing.
+use mathlib.Core.Path.{_≡_, refl, _∙_}
+use Prim.Native.Nat.{ℕ, zero, suc, _+_, _≤_, _<_}
+use native.Mathlib.Decide.{ℕ-discrete, decLt}
+use native.Mathlib.Numerals.{add-one}
+use native.Mathlib.Omega.{arith}
+use mathlib.Core.List.{List}
+use lib.ListN.{getD, set, length, length-set}
+use lib.Seq.{getD-set-same, getD-set-other, set-out}
+use Rattle.model.specs.Rounds.{fillTo}
+
+-- what holds of every entry, and of x at place i, holds of every entry after x is stored at i
+pub stored : (P : ℕ → ℕ → Type 0) (l : List ℕ) (i x : ℕ) → ((j : ℕ) → P j (getD l j 0)) → P i x → (j : ℕ) → P j (getD (set l i x) j 0)
+stored P l i x all one j = go (ℕ-discrete j i) (decLt i (length l))
+  where
+    go : Dec (j ≡ i) → Dec (i < length l) → P j (getD (set l i x) j 0)
+    go (no ne) d = rw (getD-set-other l i j x 0 ne) (all j)
+    go (yes e) (yes h) = rw e (rw (getD-set-same l i x 0 h) one)
+    go (yes e) (no h) = rw (set-out l i x (omega arith)) (all j)
+
+pub fill-length : (g : ℕ → ℕ) (l : List ℕ) (k : ℕ) → length (fillTo g l k) ≡ length l
+unfolding fillTo
+fill-length g l zero = refl
+fill-length g l (suc k) = length-set (fillTo g l k) k (g k) ∙ fill-length g l k
+
+pub fill-entry : (g : ℕ → ℕ) (l : List ℕ) (k j : ℕ) → k ≤ length l → j < k → getD (fillTo g l k) j 0 ≡ g j
+unfolding fillTo
+fill-entry g l zero j long h = absurd (omega arith)
+fill-entry g l (suc k) j long h = go (ℕ-discrete j k) (λ b. fill-entry g l k j (omega arith) b)
+  where
+    go : Dec (j ≡ k) → (j < k → getD (fillTo g l k) j 0 ≡ g j) → getD (set (fillTo g l k) k (g k)) j 0 ≡ g j
+    go (yes e) ih = rw e (getD-set-same (fillTo g l k) k (g k) 0 (omega (arith, fill-length g l k)))
+    go (no ne) ih = getD-set-other (fillTo g l k) k j (g k) 0 ne ∙ ih (omega arith)
+
+pub fill-beyond : (g : ℕ → ℕ) (l : List ℕ) (k j : ℕ) → k ≤ j → getD (fillTo g l k) j 0 ≡ getD l j 0
+unfolding fillTo
+fill-beyond g l zero j h = refl
+fill-beyond g l (suc k) j h = getD-set-other (fillTo g l k) k j (g k) 0 (omega arith) ∙ fill-beyond g l k j (omega arith)
+
+-- one entry more
+pub fill-next : (g : ℕ → ℕ) (l : List ℕ) (k : ℕ) → fillTo g l (k + 1) ≡ set (fillTo g l k) k (g k)
+unfolding fillTo
+fill-next g l k = rw add-one
+
+-- two stores side by side
+module _ (l : List ℕ) (i x y : ℕ) where
+  pub pair-first : i < length l → getD (set (set l i x) (i + 1) y) i 0 ≡ x
+  pair-first h = getD-set-other (set l i x) (i + 1) i y 0 (omega arith) ∙ getD-set-same l i x 0 h
+
+  pub pair-second : i + 1 < length l → getD (set (set l i x) (i + 1) y) (i + 1) 0 ≡ y
+  pair-second h = getD-set-same (set l i x) (i + 1) y 0 (omega (arith, length-set l i x))
+
+  pub pair-other : (j : ℕ) → (j ≡ i → ⊥) → (j ≡ i + 1 → ⊥) → getD (set (set l i x) (i + 1) y) j 0 ≡ getD l j 0
+  pair-other j ne ne′ = getD-set-other (set l i x) (i + 1) j y 0 ne′ ∙ getD-set-other l i j x 0 ne

@@ -1,0 +1,118 @@
+-- Laws of the row value: how far rounding down takes it, that it rises with the table, its bound, and that it looks at successors only.
+-- Averages are treated over any weight total above 0 and any list of outcomes; the model's total is put in once, in `rowValue-average`.
+use mathlib.Core.Path.{_≡_, refl}
+use Prim.Native.Nat.{ℕ, _+_, _*_, _/_, _≤_, _<_}
+use mathlib.Core.List.{List, [], _∷_}
+use native.Mathlib.Nat.{mul-le-mul-left, mul-div-le, lt-mul-div-succ, le-div-iff-mul-le, div-le-of-le-mul, div-mul-le-self, le-trans}
+use native.Mathlib.Omega.{arith}
+use Rattle.model.specs.Limits.{weightTotal, valueBound}
+use Rattle.model.specs.Problem.{Problem, Outcome, giveUpCost}
+use Rattle.model.specs.Value.{weightedSum, totalWeight, rowTicks, rowValue}
+use Rattle.model.specs.Walk.{In, here, there}
+use Rattle.guarantee.specs.Formed.{WellFormed}
+
+-- what a row costs where its weights add to W: its own ticks and the rounded average over its outcomes
+abbrev pub average : ℕ → ℕ → List Outcome → (ℕ → ℕ) → ℕ
+average W ticks os v = ticks + weightedSum os v / W
+
+-- a table is at most another at the successors of a list of outcomes
+abbrev pub BelowAt : List Outcome → (ℕ → ℕ) → (ℕ → ℕ) → Type 0
+BelowAt os v w = (o : Outcome) → In o os → v (o .successor) ≤ w (o .successor)
+
+-- two tables agree at the successors of a list of outcomes
+abbrev pub SameAt : List Outcome → (ℕ → ℕ) → (ℕ → ℕ) → Type 0
+SameAt os v w = (o : Outcome) → In o os → v (o .successor) ≡ w (o .successor)
+
+pub weightedSum-rises : (os : List Outcome) (v w : ℕ → ℕ) → BelowAt os v w → weightedSum os v ≤ weightedSum os w
+unfolding weightedSum
+weightedSum-rises [] v w below = omega arith
+weightedSum-rises (o ∷ os) v w below =
+    omega (arith, mul-le-mul-left (o .weight) (below o here), weightedSum-rises os v w (λ a i. below a (there i)))
+
+pub weightedSum-same : (os : List Outcome) (v w : ℕ → ℕ) → SameAt os v w → weightedSum os v ≡ weightedSum os w
+unfolding weightedSum
+weightedSum-same [] v w same = refl
+weightedSum-same (o ∷ os) v w same = rw (same o here, weightedSum-same os v w (λ a i. same a (there i))) refl
+
+pub weightedSum-high : (os : List Outcome) (v : ℕ → ℕ) (G : ℕ) → ((o : Outcome) → In o os → v (o .successor) ≤ G)
+    → weightedSum os v ≤ totalWeight os * G
+unfolding weightedSum totalWeight
+weightedSum-high [] v G high = omega arith
+weightedSum-high (o ∷ os) v G high =
+    omega (arith, mul-le-mul-left (o .weight) (high o here), weightedSum-high os v G (λ a i. high a (there i)))
+
+pub quotient-rises : (W a b : ℕ) → 0 < W → a ≤ b → a / W ≤ b / W
+quotient-rises W a b pos h = le-div-iff-mul-le pos .1 (le-trans (div-mul-le-self a W) h)
+
+module _ (W : ℕ) (pos : 0 < W) (ticks : ℕ) (os : List Outcome) where
+  pub average-low : (v : ℕ → ℕ) → W * average W ticks os v ≤ W * ticks + weightedSum os v
+  average-low v = omega (arith, mul-div-le (weightedSum os v) W)
+
+  pub average-high : (v : ℕ → ℕ) → W * ticks + weightedSum os v < W * (average W ticks os v + 1)
+  average-high v = omega (arith, lt-mul-div-succ (weightedSum os v) pos)
+
+  pub average-rises : (v w : ℕ → ℕ) → BelowAt os v w → average W ticks os v ≤ average W ticks os w
+  average-rises v w below = omega (arith, quotient-rises W _ _ pos (weightedSum-rises os v w below))
+
+  pub average-same : (v w : ℕ → ℕ) → SameAt os v w → average W ticks os v ≡ average W ticks os w
+  average-same v w same = rw (weightedSum-same os v w same) refl
+
+  pub average-bound : (v : ℕ → ℕ) (G : ℕ) → totalWeight os ≡ W → ((o : Outcome) → In o os → v (o .successor) ≤ G)
+      → average W ticks os v ≤ ticks + G
+  average-bound v G total high =
+      omega (arith, div-le-of-le-mul W {n = G} (rw total at (weightedSum-high os v G high)))
+
+-- the model's row value is the average over 1,000
+pub rowValue-average : (p : Problem) (v : ℕ → ℕ) (r : ℕ) → rowValue p v r ≡ average weightTotal (rowTicks p r) (p .outcomes r) v
+unfolding rowValue
+rowValue-average p v r = refl
+
+pub total-above-zero : 0 < weightTotal
+total-above-zero = omega arith
+
+module _ (p : Problem) (r : ℕ) where
+  pub rowValue-low : (v : ℕ → ℕ) → weightTotal * rowValue p v r ≤ weightTotal * rowTicks p r + weightedSum (p .outcomes r) v
+  rowValue-low v = rw rowValue-average (average-low weightTotal total-above-zero (rowTicks p r) (p .outcomes r) v)
+
+  pub rowValue-high : (v : ℕ → ℕ) → weightTotal * rowTicks p r + weightedSum (p .outcomes r) v < weightTotal * (rowValue p v r + 1)
+  rowValue-high v = rw rowValue-average (average-high weightTotal total-above-zero (rowTicks p r) (p .outcomes r) v)
+
+  pub rowValue-rises : (v w : ℕ → ℕ) → BelowAt (p .outcomes r) v w → rowValue p v r ≤ rowValue p w r
+  rowValue-rises v w below =
+      rw (rowValue-average p v r, rowValue-average p w r)
+      (average-rises weightTotal total-above-zero (rowTicks p r) (p .outcomes r) v w below)
+
+  pub rowValue-same : (v w : ℕ → ℕ) → SameAt (p .outcomes r) v w → rowValue p v r ≡ rowValue p w r
+  rowValue-same v w same =
+      rw (rowValue-average p v r, rowValue-average p w r)
+      (average-same weightTotal total-above-zero (rowTicks p r) (p .outcomes r) v w same)
+
+  pub rowValue-bound : (v : ℕ → ℕ) (G : ℕ) → totalWeight (p .outcomes r) ≡ weightTotal
+      → ((o : Outcome) → In o (p .outcomes r) → v (o .successor) ≤ G) → rowValue p v r ≤ rowTicks p r + G
+  rowValue-bound v G total high =
+      rw rowValue-average (average-bound weightTotal total-above-zero (rowTicks p r) (p .outcomes r) v G total high)
+
+-- on whole tables
+pub rowValue-rises-all : (p : Problem) (v w : ℕ → ℕ) → ((s : ℕ) → v s ≤ w s) → (r : ℕ) → rowValue p v r ≤ rowValue p w r
+rowValue-rises-all p v w below r = rowValue-rises p r v w (λ o i. below (o .successor))
+
+-- on the states of a problem that questions 1 to 11 let through
+module _ (p : Problem) (formed : WellFormed p) where
+  pub rowValue-rises-states : (v w : ℕ → ℕ) → ((s : ℕ) → s < p .states → v s ≤ w s)
+      → (r : ℕ) → r < p .rows → rowValue p v r ≤ rowValue p w r
+  rowValue-rises-states v w below r l = rowValue-rises p r v w (λ o i. below (o .successor) (formed .successor-state r l o i))
+
+  pub rowValue-same-states : (v w : ℕ → ℕ) → ((s : ℕ) → s < p .states → v s ≡ w s)
+      → (r : ℕ) → r < p .rows → rowValue p v r ≡ rowValue p w r
+  rowValue-same-states v w same r l = rowValue-same p r v w (λ o i. same (o .successor) (formed .successor-state r l o i))
+
+  pub rowValue-bound-states : (v : ℕ → ℕ) → ((s : ℕ) → s < p .states → v s ≤ giveUpCost p)
+      → (r : ℕ) → r < p .rows → rowValue p v r ≤ rowTicks p r + giveUpCost p
+  rowValue-bound-states v high r l =
+      rowValue-bound p r v (giveUpCost p) (formed .weights r l) (λ o i. high (o .successor) (formed .successor-state r l o i))
+
+  -- number 14 never comes: a row value under a table of values at most 1000 × D fits in 32 bits
+  pub rowValue-fits : (v : ℕ → ℕ) → ((s : ℕ) → s < p .states → v s ≤ giveUpCost p)
+      → (r : ℕ) → r < p .rows → rowValue p v r < valueBound
+  rowValue-fits v high r l =
+      omega (arith, rowValue-bound-states v high r l, formed .cost-high r l, formed .penalty-high)

@@ -1,0 +1,1 @@
+// Theorems about the model stand in specs/. There is no code here.

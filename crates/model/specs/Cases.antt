@@ -1,0 +1,142 @@
+-- "Melt-room cases": the starred items of document 01 as one list of statements about the definitions, proved together by computing.
+use mathlib.Core.Path.{_≡_, refl}
+use Prim.Native.Nat.{ℕ, _+_}
+use mathlib.Core.Bool.{false}
+use mathlib.Core.List.{List, [], _∷_}
+use lib.IntN.{pos, negsuc}
+use lib.ListN.{set, replicate}
+use Rattle.model.specs.Bytes.{u16At, u32At}
+use Rattle.model.specs.Problem.{Problem, Outcome}
+use Rattle.model.specs.Search.{first, sumTo}
+use Rattle.model.specs.Value.{entry, weightedSum, totalWeight, rowValue}
+use Rattle.model.specs.Sections.{statesAt, rowsAt, outcomesAt, fileEnd, rateSeconds, secondsOn, outcomesFrom, problemOf}
+use Rattle.model.specs.Questions.{passes, fails, sectionQuestions, endQuestion, layoutQuestions, settingQuestions, stateObeys}
+use Rattle.model.specs.Questions.{stateQuestion, startQuestion, rowNumberQuestion, costObeys, rowObeys, rowQuestion}
+use Rattle.model.specs.Questions.{outcomeNumberQuestion, outcomesObey, outcomeQuestion, undercutRow, undercutState}
+use Rattle.model.specs.Questions.{estimateQuestion, itemQuestions, fileQuestions}
+use Rattle.model.specs.Walk.{walk, visitState, visitOutcomes, next, leastCost, leastTo, pickCost}
+use Rattle.model.specs.Rounds.{evaluateOn, settle, raiseOn, machineStart, fillTo, listTable}
+use Rattle.model.specs.Solution.{Tables, Solution, solved, solution, solutionOn, solutionOf, solveQuestions, checkedRunFrom}
+use Rattle.model.specs.Solution.{checkedRound, checkedBackups, checkedBackup, checkedScan, checkedScanFrom, checkedConsiderIf}
+use Rattle.model.specs.Solution.{checkedConsider, checkedConsiderOn, checkedEvaluate}
+use Rattle.model.specs.Audit.{Audited, accepted, audit, problemAudit, tableQuestions, unboundedState, strayState, slackState}
+use Rattle.model.specs.Audit.{pickValue}
+
+-- "File P: start 0, e 1, D 5,000, all H 0; states 0 (two rows), 1 (one row), 2 goal."
+abbrev pub settingsP : List ℕ → List ℕ
+settingsP rest = 3 ∷ 0 ∷ 0 ∷ 0 ∷ 0 ∷ 0 ∷ 1 ∷ 0 ∷ 0 ∷ 0 ∷ 136 ∷ 19 ∷ 0 ∷ 0 ∷ rest
+
+abbrev pub statesP : List ℕ → List ℕ
+statesP rest = 3 ∷ 0 ∷ 0 ∷ 0 ∷ 0 ∷ 0 ∷ 2 ∷ 0 ∷ 0 ∷ 0 ∷ 0 ∷ 0 ∷ 1 ∷ 0 ∷ 0 ∷ 0 ∷ 0 ∷ 0 ∷ 0 ∷ 1 ∷ rest
+
+-- "Row 0: 100 s, to 1 weight 900, to 2 weight 100. Row 1: rate 1,000, to 2 weight 1,000. Row 2: 300 s, to 2 weight 1,000."
+abbrev pub rowsP : List ℕ → List ℕ
+rowsP rest = 3 ∷ 0 ∷ 0 ∷ 2 ∷ 100 ∷ 0 ∷ 1 ∷ 1 ∷ 232 ∷ 3 ∷ 0 ∷ 1 ∷ 44 ∷ 1 ∷ rest
+
+abbrev pub outcomesP : List ℕ
+outcomesP = 4 ∷ 0 ∷ 1 ∷ 0 ∷ 132 ∷ 3 ∷ 2 ∷ 0 ∷ 100 ∷ 0 ∷ 2 ∷ 0 ∷ 232 ∷ 3 ∷ 2 ∷ 0 ∷ 232 ∷ 3 ∷ []
+
+abbrev pub fileP : List ℕ
+fileP = settingsP (statesP (rowsP outcomesP))
+
+-- P with another 16-bit number at byte i
+abbrev pub changed : ℕ → ℕ → ℕ → List ℕ
+changed i low high = set (set fileP i low) (i + 1) high
+
+-- P with its rate, its tolerance or the low 16 bits of H(0) changed; 100,000 is 1 × 65,536 + 134 × 256 + 160
+abbrev pub rateP : ℕ → ℕ → List ℕ
+rateP low high = changed 42 low high
+
+abbrev pub toleranceP : ℕ → ℕ → List ℕ
+toleranceP low high = changed 6 low high
+
+abbrev pub estimateP : ℕ → List ℕ
+estimateP low = set (changed 16 low 134) 18 1
+
+-- "One state, no goal, no rows, e 1, D 1, H 0"
+abbrev pub oneState : List ℕ
+oneState = 3 ∷ 0 ∷ 0 ∷ 0 ∷ 0 ∷ 0 ∷ 1 ∷ 0 ∷ 0 ∷ 0 ∷ 1 ∷ 0 ∷ 0 ∷ 0 ∷ 1 ∷ 0 ∷ 0 ∷ 0 ∷ 0 ∷ 0 ∷ 0 ∷ 0 ∷ 0 ∷ 0 ∷ 0 ∷ 0 ∷ []
+
+-- four lent tables of n entries, and what `plan` does with a file
+abbrev pub lent : ℕ → Tables
+lent n = record { values = replicate n 7; picks = replicate n 7; remembered = replicate n 7; walk-list = replicate n 7 }
+
+abbrev pub planned : List ℕ → ℕ → Solution
+planned f n = solution f 1000000 (lent n)
+
+-- P's answer: "0 370000 0", "1 300000 2"; no pick at the goal
+abbrev pub valuesP : List ℕ
+valuesP = 370000 ∷ 300000 ∷ 0 ∷ []
+
+abbrev pub picksP : List ℕ
+picksP = 0 ∷ 2 ∷ 65534 ∷ []
+
+-- two outcomes, with their weights
+abbrev pub two : ℕ → ℕ → List Outcome
+two a b = record { successor = 0; weight = a } ∷ record { successor = 1; weight = b } ∷ []
+
+-- two states that are no goals, and a row that has these outcomes and costs nothing
+abbrev pub rowWith : List Outcome → Problem
+rowWith os =
+    record {
+      start = 0;
+      tolerance = 1;
+      penalty = 1;
+      states = 2;
+      rows = 1;
+      goal = λ s. false;
+      estimate = λ s. 0;
+      firstRow = λ s. 0;
+      rowCount = λ s. 1;
+      cost = λ r. 0;
+      outcomes = λ r. os;
+    }
+
+-- what outcomes average to under a table: the value of that row
+abbrev pub averageOf : List Outcome → List ℕ → ℕ
+averageOf os table = rowValue (rowWith os) (entry table) 0
+
+abbrev pub All : List (Type 0) → Type 0
+All [] = Unit {0}
+All (A ∷ As) = A × All As
+
+abbrev pub cases : List (Type 0)
+cases =
+    (rateSeconds 10 ≡ 60000)
+    ∷ (rateSeconds 700 ≡ 858)
+    ∷ (rateSeconds 999 ≡ 601)
+    ∷ (rateSeconds 1000 ≡ 600)
+    ∷ (fileQuestions (rateP 9 0) ≡ fails 8 1)
+    ∷ (fileQuestions (rateP 233 3) ≡ fails 8 1)
+    ∷ (averageOf (two 500 500) (1 ∷ 1 ∷ []) ≡ 1)
+    ∷ (averageOf (two 1 999) (999 ∷ 0 ∷ []) ≡ 0)
+    ∷ (averageOf (two 1 999) (1000 ∷ 0 ∷ []) ≡ 1)
+    ∷ (fileQuestions [] ≡ fails 1 0)
+    ∷ (fileQuestions fileP ≡ passes)
+    ∷ (fileQuestions (toleranceP 231 3) ≡ passes)
+    ∷ (fileQuestions (toleranceP 232 3) ≡ fails 4 1)
+    ∷ (fileQuestions (estimateP 160) ≡ passes)
+    ∷ (fileQuestions (estimateP 161) ≡ fails 11 0)
+    ∷ (planned fileP 3 .answer ≡ solved 3 5 100000)
+    ∷ (planned fileP 3 .tables .values ≡ valuesP)
+    ∷ (planned fileP 3 .tables .picks ≡ picksP)
+    ∷ (planned fileP 3 .tables .walk-list ≡ 1 ∷ 0 ∷ 65535 ∷ [])
+    ∷ (audit fileP valuesP picksP ≡ accepted 100000)
+    ∷ (audit fileP (370001 ∷ 300000 ∷ 0 ∷ []) picksP ≡ Audited.refused 17 0 (pos 1))
+    ∷ (audit fileP (369999 ∷ 300000 ∷ 0 ∷ []) picksP ≡ Audited.refused 19 0 (negsuc 0))
+    ∷ (planned oneState 1 .answer ≡ solved 2 0 1000)
+    ∷ (planned oneState 1 .tables .values ≡ 1000 ∷ [])
+    ∷ (planned oneState 1 .tables .picks ≡ 65535 ∷ [])
+    ∷ (planned oneState 1 .tables .walk-list ≡ 0 ∷ [])
+    ∷ []
+
+pub cases-hold : All cases
+unfolding fileQuestions layoutQuestions sectionQuestions endQuestion settingQuestions itemQuestions stateQuestion stateObeys startQuestion
+    rowNumberQuestion rowQuestion rowObeys costObeys outcomeNumberQuestion outcomeQuestion outcomesObey estimateQuestion undercutState
+    undercutRow first sumTo rowValue weightedSum totalWeight problemOf statesAt rowsAt outcomesAt fileEnd outcomesFrom rateSeconds
+    secondsOn u16At u32At
+    solution solutionOn solutionOf solveQuestions checkedRunFrom checkedRound checkedBackups checkedBackup checkedScan checkedScanFrom
+    checkedConsiderIf checkedConsider checkedConsiderOn checkedEvaluate evaluateOn settle raiseOn machineStart fillTo listTable
+    walk visitState visitOutcomes next leastCost leastTo pickCost
+    audit problemAudit tableQuestions unboundedState strayState slackState pickValue
+cases-hold = (refl, (refl, (refl, (refl, (refl, (refl, (refl, (refl, (refl, (refl, (refl, (refl, (refl, (refl, (refl, (refl, (refl, (refl, (refl, (refl, (refl, (refl, (refl, (refl, (refl, (refl, tt))))))))))))))))))))))))))

@@ -1,0 +1,62 @@
+-- The numbers of document 01, each under one name.
+use Prim.Native.Nat.{ℕ}
+
+-- "count 3", "count 1 to 1,024", "count 0 to 4,096", "count 0 to 8,192"
+abbrev pub settingCount : ℕ
+settingCount = 3
+
+abbrev pub maxStates : ℕ
+maxStates = 1024
+
+abbrev pub maxRows : ℕ
+maxRows = 4096
+
+abbrev pub maxOutcomes : ℕ
+maxOutcomes = 8192
+
+-- "tolerance e in ticks, 1 to 999; penalty D in seconds, 1 to 400,000"
+abbrev pub maxTolerance : ℕ
+maxTolerance = 999
+
+abbrev pub maxPenalty : ℕ
+maxPenalty = 400000
+
+-- "A tick is 1/1000 second."
+abbrev pub ticksPerSecond : ℕ
+ticksPerSecond = 1000
+
+-- "A row's weights add to 1,000."
+abbrev pub weightTotal : ℕ
+weightTotal = 1000
+
+-- "Kind 0: c seconds, 1 to 65,535."
+abbrev pub maxSeconds : ℕ
+maxSeconds = 65535
+
+-- "Kind 1: melt rate r .., 10 to 1,000, for a 1,000 mm stick; c is 600,000 / r rounded up."
+abbrev pub minRate : ℕ
+minRate = 10
+
+abbrev pub maxRate : ℕ
+maxRate = 1000
+
+abbrev pub stickSeconds : ℕ
+stickSeconds = 600000
+
+-- "row number, 65,535 giving up, 65,534 no pick, also at goals"; the walk list ends in 65,535s
+abbrev pub giveUp : ℕ
+giveUp = 65535
+
+abbrev pub noPick : ℕ
+noPick = 65534
+
+abbrev pub listEnd : ℕ
+listEnd = 65535
+
+-- "Is the budget at most 2,000,000,000,000,000?"
+abbrev pub maxBudget : ℕ
+maxBudget = 2000000000000000
+
+-- "does the row value fit in 32 bits?"
+abbrev pub valueBound : ℕ
+valueBound = 4294967296

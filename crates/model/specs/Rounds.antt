@@ -1,0 +1,153 @@
+-- "Rounds of the solver": the scan of one state's rows, the backup, the round and the run.
+use Prim.Native.Nat.{ℕ, zero, suc, _+_, _-_, min}
+use mathlib.Core.Bool.{Bool, true, false, _||_, not}
+use mathlib.Core.List.{List, [], _∷_, _++_}
+use lib.Dec.{leb, ltb, eqb}
+use lib.ListN.{getD, set, length, drop, replicate}
+use Rattle.model.specs.Limits.{giveUp, noPick, listEnd}
+use Rattle.model.specs.Problem.{Problem, giveUpCost, ownRow}
+use Rattle.model.specs.Value.{rowValue, entry}
+use Rattle.model.specs.Walk.{walk}
+
+-- a scan so far: best, the pick, the evaluations counted, and what each row remembers
+pub record Found : Type 0 where
+  pub best : ℕ
+  pub pick : ℕ
+  pub count : ℕ
+  pub remembered : List ℕ
+
+-- "it is evaluated: counted, its value remembered, and picked, becoming best, if it is below best"
+unfoldable pub evaluateOn : Bool → ℕ → ℕ → Found → Found
+evaluateOn true q r a = record { best = q; pick = r; count = a .count + 1; remembered = set (a .remembered) r q }
+evaluateOn false q r a = record { best = a .best; pick = a .pick; count = a .count + 1; remembered = set (a .remembered) r q }
+
+abbrev pub evaluate : ℕ → ℕ → Found → Found
+evaluate q r a = evaluateOn (ltb q (a .best)) q r a
+
+-- "A row whose remembered value is at least best is skipped. Otherwise it is evaluated"
+unfoldable pub considerOn : Bool → Problem → (ℕ → ℕ) → ℕ → Found → Found
+considerOn true p v r a = a
+considerOn false p v r a = evaluate (rowValue p v r) r a
+
+unfoldable pub consider : Problem → (ℕ → ℕ) → ℕ → Found → Found
+consider p v r a = considerOn (leb (a .best) (getD (a .remembered) r 0)) p v r a
+
+-- a row is considered where the test says so
+unfoldable pub considerIf : Bool → Problem → (ℕ → ℕ) → ℕ → Found → Found
+considerIf true p v r a = consider p v r a
+considerIf false p v r a = a
+
+-- "then the others in row order": k rows from r on, but for the pick before
+unfoldable pub scanFrom : Problem → (ℕ → ℕ) → ℕ → ℕ → ℕ → Found → Found
+scanFrom p v prev r zero a = a
+scanFrom p v prev r (suc k) a = scanFrom p v prev (suc r) k (considerIf (not (eqb r prev)) p v r a)
+
+-- "Take first the row picked before, if any, then the others in row order."
+unfoldable pub scan : Problem → (ℕ → ℕ) → ℕ → ℕ → Found → Found
+scan p v s prev a = scanFrom p v prev (p .firstRow s) (p .rowCount s) (considerIf (ownRow p s prev) p v prev a)
+
+-- the tables, the last walk's list, the evaluations so far, and whether this round so far had a rise or a changed pick
+pub record Machine : Type 0 where
+  pub values : List ℕ
+  pub picks : List ℕ
+  pub remembered : List ℕ
+  pub list : List ℕ
+  pub evaluations : ℕ
+  pub moved : Bool
+
+-- "Set best to 1000 × D and the pick to giving up."
+abbrev pub scanStart : Problem → Machine → Found
+scanStart p m = record { best = giveUpCost p; pick = giveUp; count = m .evaluations; remembered = m .remembered }
+
+abbrev pub scanOf : Problem → ℕ → Machine → Found
+scanOf p s m = scan p (entry (m .values)) s (getD (m .picks) s 0) (scanStart p m)
+
+-- "If best − V(s) is at least e, V(s) becomes best."
+unfoldable pub raiseOn : Bool → List ℕ → ℕ → ℕ → List ℕ
+raiseOn true values s best = set values s best
+raiseOn false values s best = values
+
+-- whether a backup at s with tolerance e raises V(s)
+abbrev pub rises : ℕ → ℕ → Machine → Found → Bool
+rises e s m a = leb (getD (m .values) s 0 + e) (a .best)
+
+unfoldable pub settle : ℕ → ℕ → Machine → Found → Machine
+settle e s m a =
+    record {
+      values = raiseOn (rises e s m a) (m .values) s (a .best);
+      picks = set (m .picks) s (a .pick);
+      remembered = a .remembered;
+      list = m .list;
+      evaluations = a .count;
+      moved = m .moved || (rises e s m a || not (eqb (a .pick) (getD (m .picks) s 0)));
+    }
+
+unfoldable pub backup : Problem → ℕ → ℕ → Machine → Machine
+backup p e s m = settle e s m (scanOf p s m)
+
+-- "Back up the listed states in list order; later ones see earlier changes."
+unfoldable pub backups : Problem → ℕ → List ℕ → Machine → Machine
+backups p e [] m = m
+backups p e (s ∷ ss) m = backups p e ss (backup p e s m)
+
+abbrev pub walked : Problem → Machine → Machine
+walked p m =
+    record {
+      values = m .values;
+      picks = m .picks;
+      remembered = m .remembered;
+      list = walk p (entry (m .picks)) .list;
+      evaluations = m .evaluations;
+      moved = false;
+    }
+
+unfoldable pub round : Problem → ℕ → Machine → Machine
+round p e m = backups p e (walk p (entry (m .picks)) .list) (walked p m)
+
+-- how a run ends: the rounds done, and the machine as it is left
+pub data Ending : Type 0 where
+  solved : ℕ → Machine → Ending
+  spent : ℕ → Machine → Ending
+
+-- `budget` rounds are left, `going` says whether the round before moved something, `n` rounds are done.
+-- "A round with no rise, in which each listed state's pick after its backup is the one before it, ends the run as solved. If
+-- the budget is reached first, the run is spent."
+unfoldable pub runFrom : Problem → ℕ → ℕ → Bool → ℕ → Machine → Ending
+runFrom p e zero true n m = spent n m
+runFrom p e zero false n m = solved n m
+runFrom p e (suc budget) false n m = solved n m
+runFrom p e (suc budget) true n m = let m′ = round p e m in runFrom p e budget (m′ .moved) (suc n) m′
+
+-- the first k entries of a table are g 0, g 1, ..; the rest stay
+unfoldable pub fillTo : (ℕ → ℕ) → List ℕ → ℕ → List ℕ
+fillTo g l zero = l
+fillTo g l (suc k) = set (fillTo g l k) k (g k)
+
+-- "At first V = H, no state has a pick, and each row remembers its value under H."
+unfoldable pub machineStart : Problem → List ℕ → List ℕ → List ℕ → Machine
+machineStart p values picks remembered =
+    record {
+      values = fillTo (p .estimate) values (p .states);
+      picks = fillTo (λ s. noPick) picks (p .states);
+      remembered = fillTo (rowValue p (p .estimate)) remembered (p .rows);
+      list = [];
+      evaluations = 0;
+      moved = true;
+    }
+
+-- the run of a problem with a budget, from lent tables
+abbrev pub runOf : Problem → ℕ → List ℕ → List ℕ → List ℕ → Ending
+runOf p budget values picks remembered = runFrom p (p .tolerance) budget true 0 (machineStart p values picks remembered)
+
+-- "the walk list ending in 65,535s up to the number of states; in every table entries beyond stay"
+unfoldable pub listTable : ℕ → List ℕ → List ℕ → List ℕ
+listTable n list table = list ++ (replicate (n - length list) listEnd ++ drop n table)
+
+-- Apart from the rounds, with no skipping and no memory: the Bellman backup of document 000's definition 4, with giving up as
+-- one more choice: the least of 1000 × D and the values of the state's first k rows
+unfoldable pub leastValue : Problem → (ℕ → ℕ) → ℕ → ℕ → ℕ
+leastValue p v r zero = giveUpCost p
+leastValue p v r (suc k) = min (rowValue p v r) (leastValue p v (suc r) k)
+
+unfoldable pub bellman : Problem → (ℕ → ℕ) → ℕ → ℕ
+bellman p v s = leastValue p v (p .firstRow s) (p .rowCount s)

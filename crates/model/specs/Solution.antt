@@ -1,0 +1,123 @@
+-- Solving a file: questions 12 to 14, the run with the check of question 14 at each evaluation, and what is handed back: the
+-- answer and the four lent tables as they are left.
+use Prim.Native.Nat.{ℕ, zero, suc}
+use mathlib.Core.Bool.{Bool, true, false, not}
+use mathlib.Core.List.{List, [], _∷_}
+use lib.Dec.{leb, ltb, eqb}
+use lib.ListN.{getD, length}
+use Rattle.model.specs.Limits.{maxBudget, valueBound}
+use Rattle.model.specs.Problem.{Problem, ownRow}
+use Rattle.model.specs.Sections.{problemOf}
+use Rattle.model.specs.Value.{rowValue, entry}
+use Rattle.model.specs.Questions.{Verdict, passes, fails, _then_, ask, fileQuestions}
+use Rattle.model.specs.Walk.{walk, leastCost}
+use Rattle.model.specs.Rounds.{Found, Machine, Ending, evaluate, scanStart, settle, walked, machineStart, listTable}
+
+-- "At an evaluation: does the row value fit in 32 bits? 14 (row; tables as before that backup).": all is fine, or the value of a
+-- row is too large, and the machine is left as it was before that backup
+pub data Checked (A : Type 0) : Type 0 where
+  fine : A → Checked A
+  over : (row : ℕ) (left : Machine) → Checked A
+
+-- "A no ends the call": what comes next is done only where all was fine so far
+abbrev pub onwards : {A B : Type 0} → Checked A → (A → Checked B) → Checked B
+onwards (fine a) next = next a
+onwards (over r m) next = over r m
+
+-- The rounds of Rounds.antt with that check. `m` is the machine as it was before the backup: its values are those that the rows
+-- of this backup are evaluated under.
+unfoldable pub checkedEvaluate : Bool → ℕ → ℕ → Machine → Found → Checked Found
+checkedEvaluate true q r m a = fine (evaluate q r a)
+checkedEvaluate false q r m a = over r m
+
+unfoldable pub checkedConsiderOn : Bool → Problem → ℕ → Machine → Found → Checked Found
+checkedConsiderOn true p r m a = fine a
+checkedConsiderOn false p r m a =
+    let q = rowValue p (entry (m .values)) r in checkedEvaluate (ltb q valueBound) q r m a
+
+unfoldable pub checkedConsider : Problem → ℕ → Machine → Found → Checked Found
+checkedConsider p r m a = checkedConsiderOn (leb (a .best) (getD (a .remembered) r 0)) p r m a
+
+unfoldable pub checkedConsiderIf : Bool → Problem → ℕ → Machine → Found → Checked Found
+checkedConsiderIf true p r m a = checkedConsider p r m a
+checkedConsiderIf false p r m a = fine a
+
+unfoldable pub checkedScanFrom : Problem → Machine → ℕ → ℕ → ℕ → Found → Checked Found
+checkedScanFrom p m prev r zero a = fine a
+checkedScanFrom p m prev r (suc k) a =
+    onwards (checkedConsiderIf (not (eqb r prev)) p r m a) (checkedScanFrom p m prev (suc r) k)
+
+unfoldable pub checkedScan : Problem → Machine → ℕ → ℕ → Checked Found
+checkedScan p m s prev =
+    onwards (checkedConsiderIf (ownRow p s prev) p prev m (scanStart p m)) (checkedScanFrom p m prev (p .firstRow s) (p .rowCount s))
+
+unfoldable pub checkedBackup : Problem → ℕ → ℕ → Machine → Checked Machine
+checkedBackup p e s m = onwards (checkedScan p m s (getD (m .picks) s 0)) (λ a. fine (settle e s m a))
+
+unfoldable pub checkedBackups : Problem → ℕ → List ℕ → Machine → Checked Machine
+checkedBackups p e [] m = fine m
+checkedBackups p e (s ∷ ss) m = onwards (checkedBackup p e s m) (checkedBackups p e ss)
+
+unfoldable pub checkedRound : Problem → ℕ → Machine → Checked Machine
+checkedRound p e m = checkedBackups p e (walk p (entry (m .picks)) .list) (walked p m)
+
+unfoldable pub checkedRunFrom : Problem → ℕ → ℕ → Bool → ℕ → Machine → Checked Ending
+checkedRunFrom p e zero true n m = fine (Ending.spent n m)
+checkedRunFrom p e zero false n m = fine (Ending.solved n m)
+checkedRunFrom p e (suc budget) false n m = fine (Ending.solved n m)
+checkedRunFrom p e (suc budget) true n m =
+    onwards (checkedRound p e m) (λ m′. checkedRunFrom p e budget (m′ .moved) (suc n) m′)
+
+-- "Lent tables: values and picks per state, remembered values per row, walk list per state."
+pub record Tables : Type 0 where
+  pub values : List ℕ
+  pub picks : List ℕ
+  pub remembered : List ℕ
+  pub walk-list : List ℕ
+
+-- "The result carries solved or spent, rounds done, evaluations and C (0 if spent). A refusal carries 0 for all three counts."
+pub data Answer : Type 0 where
+  solved : (rounds evaluations least : ℕ) → Answer
+  spent : (rounds evaluations : ℕ) → Answer
+  refused : (question place : ℕ) → Answer
+
+pub record Solution : Type 0 where
+  pub answer : Answer
+  pub tables : Tables
+
+-- "After solved or spent they hold the machine's state, the walk list ending in 65,535s up to the number of states; in every table
+-- entries beyond stay."
+abbrev pub tablesOf : Problem → List ℕ → Machine → Tables
+tablesOf p lent m =
+    record {
+      values = m .values;
+      picks = m .picks;
+      remembered = m .remembered;
+      walk-list = listTable (p .states) (m .list) lent;
+    }
+
+unfoldable pub solutionOf : Problem → List ℕ → Checked Ending → Solution
+solutionOf p lent (fine (Ending.solved n m)) =
+    record { answer = solved n (m .evaluations) (leastCost p (entry (m .picks))); tables = tablesOf p lent m }
+solutionOf p lent (fine (Ending.spent n m)) = record { answer = spent n (m .evaluations); tables = tablesOf p lent m }
+solutionOf p lent (over r m) = record { answer = refused 14 r; tables = tablesOf p lent m }
+
+-- "are values, picks, remembered, walk list long enough? 12 (table 0 to 3). Is the budget at most 2,000,000,000,000,000? 13 (0)."
+unfoldable pub solveQuestions : Problem → ℕ → Tables → Verdict
+solveQuestions p budget t =
+    ask 12 0 (leb (p .states) (length (t .values)))
+    then ask 12 1 (leb (p .states) (length (t .picks)))
+    then ask 12 2 (leb (p .rows) (length (t .remembered)))
+    then ask 12 3 (leb (p .states) (length (t .walk-list)))
+    then ask 13 0 (leb budget maxBudget)
+
+-- "A no ends the call with the number and a place; no table has changed, but for 14."
+unfoldable pub solutionOn : Verdict → Problem → ℕ → Tables → Solution
+solutionOn passes p budget t =
+    solutionOf p (t .walk-list)
+    (checkedRunFrom p (p .tolerance) budget true 0 (machineStart p (t .values) (t .picks) (t .remembered)))
+solutionOn (fails q i) p budget t = record { answer = refused q i; tables = t }
+
+-- solving a file with a budget and four lent tables
+unfoldable pub solution : List ℕ → ℕ → Tables → Solution
+solution f budget t = solutionOn (fileQuestions f then solveQuestions (problemOf f) budget t) (problemOf f) budget t

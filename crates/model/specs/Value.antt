@@ -1,0 +1,26 @@
+-- The row value: "1000 × c plus the sum of w × V(successor) divided by 1,000, rounded down once, after the sum."
+use Prim.Native.Nat.{ℕ, _+_, _*_, _/_}
+use mathlib.Core.List.{List, [], _∷_}
+use lib.ListN.{getD}
+use Rattle.model.specs.Limits.{ticksPerSecond, weightTotal}
+use Rattle.model.specs.Problem.{Problem, Outcome}
+
+-- a table V, read as a function of the state
+abbrev pub entry : List ℕ → ℕ → ℕ
+entry l = λ s. getD l s 0
+
+-- the sum of w × V(successor); no product is rounded
+unfoldable pub weightedSum : List Outcome → (ℕ → ℕ) → ℕ
+weightedSum [] v = 0
+weightedSum (o ∷ os) v = o .weight * v (o .successor) + weightedSum os v
+
+-- the sum of the weights
+unfoldable pub totalWeight : List Outcome → ℕ
+totalWeight [] = 0
+totalWeight (o ∷ os) = o .weight + totalWeight os
+
+abbrev pub rowTicks : Problem → ℕ → ℕ
+rowTicks p r = ticksPerSecond * p .cost r
+
+unfoldable pub rowValue : Problem → (ℕ → ℕ) → ℕ → ℕ
+rowValue p v r = rowTicks p r + weightedSum (p .outcomes r) v / weightTotal

@@ -1,0 +1,128 @@
+-- `sections` answers questions 1 to 3 in order: each return rewrites the chain with what the sections before it answered.
+-- Made by `places make` from answers/layout/sections.ans: edit that file, and not this one.
+use borrow.Author.Tests.{eq-eqb, ne-eqb}
+use mathlib.Core.Path.{_≡_, refl, _∙_, sym}
+use Prim.Native.Nat.{_≤_, _+_}
+use lib.ListN.{length}
+use Rattle.model.specs.Questions.{layoutQuestions, endQuestion}
+use Rattle.model.specs.Sections.{statesAt, rowsAt, outcomesAt, fileEnd}
+use Rattle.guarantee.specs.WellFormed.{section-there}
+use Rattle.reading.proofs.Chain.{section-passes, section-fails, states-begin, rows-begin, outcomes-begin, file-ends}
+use borrow.Author.Needs.{needs}
+use native.Mathlib.Omega.{arith}
+use Rattle.reading.proofs.layout.sections.Statement.{statement}
+use Rattle.reading.proofs.layout.sections.Tie as tie
+
+section-requires : tie.Need-section-requires
+section-requires c κs = search needs
+
+returns : tie.Need-returns
+unfolding layoutQuestions
+returns c = rw (section-fails _ _ _ _ _ 0 _ refl (c .before .section .ensures) 0 (c .if1 .taken))
+
+section-end-requires : tie.Need-section-end-requires
+section-end-requires c κs =
+    let t = section-there 0 0 4 3 3 _ (section-passes _ _ _ _ _ 0 _ refl (c .before .section .ensures) 0 (c .if1 .left)) in
+    omega arith
+
+section-requires-2 : tie.Need-section-requires-2
+section-requires-2 c κs =
+    let t = section-there 0 0 4 3 3 _ (section-passes _ _ _ _ _ 0 _ refl (c .before .before .section .ensures) 0 (c .before .if1 .left)) in
+    omega arith
+
+returns-2 : tie.Need-returns-2
+unfolding layoutQuestions
+returns-2 c =
+    let p0 = section-passes _ _ _ _ _ 0 _ refl (c .before .before .before .before .section .ensures) 0 (c .before .before .before .if1 .left) in
+    let i1 = states-begin _ _ (c .before .before .section-end .ensures) in
+    rw (p0, section-fails _ _ _ _ _ _ _ i1 (c .before .section2 .ensures) 1 (c .if2 .taken))
+
+section-end-requires-2 : tie.Need-section-end-requires-2
+section-end-requires-2 c κs =
+    let t = section-there 1 _ 6 1 1024 _ (section-passes _ _ _ _ _ _ _ refl (c .before .section2 .ensures) 1 (c .if2 .left)) in
+    omega arith
+
+section-requires-3 : tie.Need-section-requires-3
+section-requires-3 c κs =
+    let t = section-there 1 _ 6 1 1024 _ (section-passes _ _ _ _ _ _ _ refl (c .before .before .section2 .ensures) 1 (c .before .if2 .left)) in
+    omega arith
+
+returns-3 : tie.Need-returns-3
+unfolding layoutQuestions
+returns-3 c =
+    let p0 = section-passes _ _ _ _ _ 0 _ refl (c .before .before .before .before .before .before .before .section .ensures) 0 (c .before .before .before .before .before .before .if1 .left) in
+    let i1 = states-begin _ _ (c .before .before .before .before .before .section-end .ensures) in
+    let p1 = section-passes _ _ _ _ _ _ _ i1 (c .before .before .before .before .section2 .ensures) 1 (c .before .before .before .if2 .left) in
+    let i2 = rows-begin _ _ _ (c .before .before .section-end2 .ensures) i1 in
+    rw (p0, p1, section-fails _ _ _ _ _ _ _ i2 (c .before .section3 .ensures) 2 (c .if3 .taken))
+
+section-end-requires-3 : tie.Need-section-end-requires-3
+section-end-requires-3 c κs =
+    let t = section-there 2 _ 4 0 4096 _ (section-passes _ _ _ _ _ _ _ refl (c .before .section3 .ensures) 2 (c .if3 .left)) in
+    omega arith
+
+section-requires-4 : tie.Need-section-requires-4
+section-requires-4 c κs =
+    let t = section-there 2 _ 4 0 4096 _ (section-passes _ _ _ _ _ _ _ refl (c .before .before .section3 .ensures) 2 (c .before .if3 .left)) in
+    omega arith
+
+returns-4 : tie.Need-returns-4
+unfolding layoutQuestions
+returns-4 c =
+    let p0 = section-passes _ _ _ _ _ 0 _ refl (c .before .before .before .before .before .before .before .before .before .before .section .ensures) 0 (c .before .before .before .before .before .before .before .before .before .if1 .left) in
+    let i1 = states-begin _ _ (c .before .before .before .before .before .before .before .before .section-end .ensures) in
+    let p1 = section-passes _ _ _ _ _ _ _ i1 (c .before .before .before .before .before .before .before .section2 .ensures) 1 (c .before .before .before .before .before .before .if2 .left) in
+    let i2 = rows-begin _ _ _ (c .before .before .before .before .before .section-end2 .ensures) i1 in
+    let p2 = section-passes _ _ _ _ _ _ _ i2 (c .before .before .before .before .section3 .ensures) 2 (c .before .before .before .if3 .left) in
+    let i3 = outcomes-begin _ _ _ (c .before .before .section-end3 .ensures) i2 in
+    rw (p0, p1, p2, section-fails _ _ _ _ _ _ _ i3 (c .before .section4 .ensures) 3 (c .if4 .taken))
+
+section-end-requires-4 : tie.Need-section-end-requires-4
+section-end-requires-4 c κs =
+    let t = section-there 3 _ 4 0 8192 _ (section-passes _ _ _ _ _ _ _ refl (c .before .section4 .ensures) 3 (c .if4 .left)) in
+    omega arith
+
+returns-5 : tie.Need-returns-5
+unfolding layoutQuestions endQuestion
+returns-5 c =
+    let p0 = section-passes _ _ _ _ _ 0 _ refl (c .before .before .before .before .before .before .before .before .before .before .before .before .section .ensures) 0 (c .before .before .before .before .before .before .before .before .before .before .before .if1 .left) in
+    let i1 = states-begin _ _ (c .before .before .before .before .before .before .before .before .before .before .section-end .ensures) in
+    let p1 = section-passes _ _ _ _ _ _ _ i1 (c .before .before .before .before .before .before .before .before .before .section2 .ensures) 1 (c .before .before .before .before .before .before .before .before .if2 .left) in
+    let i2 = rows-begin _ _ _ (c .before .before .before .before .before .before .before .section-end2 .ensures) i1 in
+    let p2 = section-passes _ _ _ _ _ _ _ i2 (c .before .before .before .before .before .before .section3 .ensures) 2 (c .before .before .before .before .before .if3 .left) in
+    let i3 = outcomes-begin _ _ _ (c .before .before .before .before .section-end3 .ensures) i2 in
+    let p3 = section-passes _ _ _ _ _ _ _ i3 (c .before .before .before .section4 .ensures) 3 (c .before .before .if4 .left) in
+    let e = file-ends _ _ _ (c .before .section-end4 .ensures) i3 in
+    rw (p0, p1, p2, p3, eq-eqb _ _ (sym e ∙ (c .if5 .taken)))
+
+returns-6 : tie.Need-returns-6
+unfolding layoutQuestions endQuestion
+returns-6 c =
+    let p0 = section-passes _ _ _ _ _ 0 _ refl (c .before .before .before .before .before .before .before .before .before .before .before .before .section .ensures) 0 (c .before .before .before .before .before .before .before .before .before .before .before .if1 .left) in
+    let i1 = states-begin _ _ (c .before .before .before .before .before .before .before .before .before .before .section-end .ensures) in
+    let p1 = section-passes _ _ _ _ _ _ _ i1 (c .before .before .before .before .before .before .before .before .before .section2 .ensures) 1 (c .before .before .before .before .before .before .before .before .if2 .left) in
+    let i2 = rows-begin _ _ _ (c .before .before .before .before .before .before .before .section-end2 .ensures) i1 in
+    let p2 = section-passes _ _ _ _ _ _ _ i2 (c .before .before .before .before .before .before .section3 .ensures) 2 (c .before .before .before .before .before .if3 .left) in
+    let i3 = outcomes-begin _ _ _ (c .before .before .before .before .section-end3 .ensures) i2 in
+    let p3 = section-passes _ _ _ _ _ _ _ i3 (c .before .before .before .section4 .ensures) 3 (c .before .before .if4 .left) in
+    let e = file-ends _ _ _ (c .before .section-end4 .ensures) i3 in
+    rw (p0, p1, p2, p3, ne-eqb _ _ (λ t. c .if5 .left (e ∙ t)))
+
+pub sections-spec : {M : Type 1} → statement M
+sections-spec =
+    tie.close
+    (tie.spec
+    section-requires
+    returns
+    section-end-requires
+    section-requires-2
+    returns-2
+    section-end-requires-2
+    section-requires-3
+    returns-3
+    section-end-requires-3
+    section-requires-4
+    returns-4
+    section-end-requires-4
+    returns-5
+    returns-6)

@@ -1,0 +1,80 @@
+-- `row_questions` answers questions 7 to 9 in order and fills in the index: each return hands over what the loops found.
+-- Made by `places make` from answers/questions/row_questions.ans: edit that file, and not this one.
+use Prim.Native.Nat.{_≤_, _<_}
+use Rattle.reading.proofs.Asking.{seven-no, seven-yes, eight-no, eight-yes, rows-obey, nine-no, nine-yes, index-holds}
+use Rattle.reading.proofs.Asking.{rows-stop-7, rows-stop-8, rows-stop-9, rows-pass}
+use borrow.Author.Needs.{needs}
+use native.Mathlib.Omega.{arith}
+use Rattle.reading.proofs.questions.row_questions.Statement.{statement}
+use Rattle.reading.proofs.questions.row_questions.Tie as tie
+
+index-states-requires : tie.Need-index-states-requires
+index-states-requires c κs = omega arith
+
+cast-if1 : tie.Need-cast-if1
+cast-if1 c = omega arith
+
+refused-requires : tie.Need-refused-requires
+refused-requires c κs = search needs
+
+returns : tie.Need-returns
+returns c =
+    let p = c .before .before .before .before .before .pre .0 in
+    rw (c .refused .ensures) (rows-stop-7 _ _ _ _ _ _ _ p _ (seven-no _ _ _ _ _ _ _ p _ (c .before .before .index-states .ensures .0) (c .before .if1 .taken)))
+
+bad-row-requires : tie.Need-bad-row-requires
+bad-row-requires c κs = omega arith
+
+refused-requires-2 : tie.Need-refused-requires-2
+refused-requires-2 c κs = omega arith
+
+returns-2 : tie.Need-returns-2
+returns-2 c =
+    let p = c .before .before .before .before .before .before .before .pre .0 in
+    let y7 = seven-yes _ _ _ _ _ _ _ p _ (c .before .before .before .before .index-states .ensures .0) (c .before .before .before .if1 .left) in
+    rw (c .refused2 .ensures) (rows-stop-8 _ _ _ _ _ _ _ p _ _ y7 (eight-no _ _ _ _ _ _ _ p _ (c .before .before .bad-row .ensures) (c .before .if2 .taken)))
+
+index-rows-requires : tie.Need-index-rows-requires
+index-rows-requires c κs =
+    let p = c .before .before .before .before .before .before .before .pre .0 in
+    (omega arith, omega arith, omega arith, rows-obey _ _ _ _ _ _ _ p _ (c .before .before .bad-row .ensures) (c .before .if2 .left))
+
+cast-if3 : tie.Need-cast-if3
+cast-if3 c = omega arith
+
+refused-requires-3 : tie.Need-refused-requires-3
+refused-requires-3 c κs = search needs
+
+returns-3 : tie.Need-returns-3
+returns-3 c =
+    let p = c .before .before .before .before .before .before .before .before .before .before .before .pre .0 in
+    let y7 = seven-yes _ _ _ _ _ _ _ p _ (c .before .before .before .before .before .before .before .before .index-states .ensures .0) (c .before .before .before .before .before .before .before .if1 .left) in
+    let y8 = eight-yes _ _ _ _ _ _ _ p _ (c .before .before .before .before .before .before .bad-row .ensures) (c .before .before .before .before .before .if2 .left) in
+    rw (c .refused3 .ensures) (rows-stop-9 _ _ _ _ _ _ _ p _ y7 y8 (nine-no _ _ _ _ _ _ _ p _ (c .before .before .before .index-rows .ensures .sum) (c .before .if3 .taken)))
+
+returns-4 : tie.Need-returns-4
+returns-4 c =
+    let p = c .before .before .before .before .before .before .before .before .before .before .pre .0 in
+    let y7 = seven-yes _ _ _ _ _ _ _ p _ (c .before .before .before .before .before .before .before .index-states .ensures .0) (c .before .before .before .before .before .before .if1 .left) in
+    let y8 = eight-yes _ _ _ _ _ _ _ p _ (c .before .before .before .before .before .bad-row .ensures) (c .before .before .before .before .if2 .left) in
+    let y9 = nine-yes _ _ _ _ _ _ _ p _ (c .before .before .index-rows .ensures .sum) (c .if3 .left) in
+    rows-pass _ _ _ _ _ _ _ p _ y7 y8 y9
+    (index-holds _ _ _ _ _ _ _ p (c .before .before .before .before .before .before .before .before .before .before .args .index .now) _ _ _ _ (λ i. omega (arith, c .before .before .before .before .before .before .before .before .before .shared-slice-known .given i)) (c .before .before .before .before .before .before .before .before .before .before .pre .1) (c .before .before .before .before .before .before .before .index-states .ensures .1) (c .before .before .before .before .before .before .before .index-states .ensures .0)
+    (c .before .before .before .before .before .before .if1 .left) (c .before .before .index-rows .ensures) (c .if3 .left))
+
+pub row-questions-spec : {M : Type 1} → statement M
+row-questions-spec =
+    tie.close
+    (tie.spec
+    index-states-requires
+    cast-if1
+    refused-requires
+    returns
+    bad-row-requires
+    refused-requires-2
+    returns-2
+    index-rows-requires
+    cast-if3
+    refused-requires-3
+    returns-3
+    returns-4)

@@ -1,0 +1,69 @@
+-- `value_questions` answers questions 10 and 11: each return hands over what the searches found.
+-- Made by `places make` from answers/questions/value_questions.ans: edit that file, and not this one.
+use lib.ListN.{length-replicate}
+use Rattle.guarantee.specs.Tables.{fill-length}
+use Prim.Native.Nat.{_≤_, _<_}
+use Rattle.reading.proofs.Asking.{known, states-are, rows-are, ten-no, ten-yes, eleven-no, eleven-yes, values-stop-10, values-stop-11, values-pass}
+use Rattle.reading.proofs.Indexing.{parts-there, ready}
+use borrow.Author.Needs.{needs}
+use native.Mathlib.Omega.{arith}
+use Rattle.reading.proofs.questions.value_questions.Statement.{statement}
+use Rattle.reading.proofs.questions.value_questions.Tie as tie
+
+bad-outcomes-requires : tie.Need-bad-outcomes-requires
+bad-outcomes-requires c κs =
+    let e = rows-are _ _ _ _ _ _ _ (known _ _ _ _ _ _ _ _ (c .before .pre)) in
+    (omega arith, λ r l. parts-there _ _ (c .before .pre .indexed) r (rw (← e) l))
+
+refused-requires : tie.Need-refused-requires
+refused-requires c κs = omega arith
+
+returns : tie.Need-returns
+returns c = rw (c .refused .ensures) (values-stop-10 _ _ _ _ _ _ _ _ (c .before .before .before .before .pre) _ (ten-no _ _ _ _ _ _ _ _ (c .before .before .before .before .pre) _ (c .before .before .bad-outcomes .ensures) (c .before .if1 .taken)))
+
+slice-aggregate-estimates : tie.Need-slice-aggregate-estimates
+slice-aggregate-estimates c = search needs
+
+estimates-requires : tie.Need-estimates-requires
+estimates-requires c κs = omega arith
+
+slice-aggregate-first-undercut : tie.Need-slice-aggregate-first-undercut
+slice-aggregate-first-undercut c = search needs
+
+first-undercut-requires : tie.Need-first-undercut-requires
+first-undercut-requires c κs =
+    let y10 = ten-yes _ _ _ _ _ _ _ _ (c .before .before .before .before .before .before .before .pre) _ (c .before .before .before .before .before .bad-outcomes .ensures) (c .before .before .before .before .if1 .left) in
+    let e = states-are _ _ _ _ _ _ _ (known _ _ _ _ _ _ _ _ (c .before .before .before .before .before .before .before .pre)) in
+    (ready _ _ (c .before .before .before .before .before .before .before .pre .indexed) y10, e, rw (c .before .before .estimates .ensures, fill-length, length-replicate) (c .before .before .before .before .before .before .before .pre .laid .states-high))
+
+refused-requires-2 : tie.Need-refused-requires-2
+refused-requires-2 c κs = omega arith
+
+returns-2 : tie.Need-returns-2
+returns-2 c =
+    let p = c .before .before .before .before .before .before .before .before .before .before .before .pre in
+    let y10 = ten-yes _ _ _ _ _ _ _ _ p _ (c .before .before .before .before .before .before .before .before .before .bad-outcomes .ensures) (c .before .before .before .before .before .before .before .before .if1 .left) in
+    let n11 = eleven-no _ _ _ _ _ _ _ _ p y10 _ (c .before .before .before .before .before .before .estimates .ensures) _ _ (c .before .before .before .first-undercut .ensures) (c .before .if2 .taken) in
+    rw (c .refused2 .ensures) (values-stop-11 _ _ _ _ _ _ _ _ p _ y10 n11)
+
+returns-3 : tie.Need-returns-3
+returns-3 c =
+    let p = c .before .before .before .before .before .before .before .before .before .before .pre in
+    let y10 = ten-yes _ _ _ _ _ _ _ _ p _ (c .before .before .before .before .before .before .before .before .bad-outcomes .ensures) (c .before .before .before .before .before .before .before .if1 .left) in
+    let y11 = eleven-yes _ _ _ _ _ _ _ _ p y10 _ (c .before .before .before .before .before .estimates .ensures) _ _ (c .before .before .first-undercut .ensures) (c .if2 .left) in
+    values-pass _ _ _ _ _ _ _ _ p y10 y11
+
+pub value-questions-spec : {M : Type 1} → statement M
+value-questions-spec =
+    tie.close
+    (tie.spec
+    bad-outcomes-requires
+    refused-requires
+    returns
+    slice-aggregate-estimates
+    estimates-requires
+    slice-aggregate-first-undercut
+    first-undercut-requires
+    refused-requires-2
+    returns-2
+    returns-3)

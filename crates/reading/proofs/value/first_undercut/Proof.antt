@@ -1,0 +1,146 @@
+-- `first_undercut` answers the first state that a row of its own undercuts, and its first such row: in both loops what is left of
+-- the search gives the same answer as the whole.
+-- Made by `places make` from answers/value/first_undercut.ans: edit that file, and not this one.
+use Prim.Native.Nat.{_≤_, _-_}
+use lib.ListN.{getD}
+use mathlib.Core.Path.{_≡_, _∙_, sym}
+use Rattle.model.specs.Questions.{undercutState, undercutRow}
+use Rattle.model.specs.Search.{first}
+use Rattle.model.specs.Sections.{problemOf}
+use Rattle.model.specs.Value.{entry}
+use Rattle.guarantee.specs.Loops.{search-ends}
+use Rattle.reading.proofs.RowParts.{rows-begin, rows-end, rows-high, row-ready}
+use Rattle.reading.proofs.UndercutLoops.{rowHolds, stateHolds, rows-start, states-start}
+use Rattle.reading.proofs.UndercutLoops.{row-passes, row-undercuts, state-passes, state-undercut}
+use native.Mathlib.Omega.{arith}
+use Rattle.reading.proofs.value.first_undercut.Statement.{statement}
+use Rattle.reading.proofs.value.first_undercut.Tie as tie
+
+abbrev Inv-loop : tie.InvT-loop
+Inv-loop file index values n s found₀ value end r₀ found r =
+    (r ≤ end)
+    × (found ≤ 4096)
+    × (undercutRow (problemOf file) (entry values) s ≡ first (rowHolds (problemOf file) (entry values) (getD values s 0)) r (end - r))
+
+abbrev μ-loop : tie.MeasureT-loop
+μ-loop file index values n s found₀ value end r₀ found r = end - r
+
+abbrev Inv-states : tie.InvT-states
+Inv-states file index values n s₀ found₀ s found =
+    (s ≤ n)
+    × (found ≤ 4096)
+    × (undercutState (problemOf file) (entry values) ≡ first (stateHolds (problemOf file) (entry values)) s (n - s))
+
+abbrev μ-states : tie.MeasureT-states
+μ-states file index values n s₀ found₀ s found = n - s
+
+states-holds : tie.Need-states-holds Inv-loop μ-loop Inv-states μ-states
+states-holds c = (omega arith, omega arith, states-start _ _ _ (c .before .before .pre .1))
+
+mul-value : tie.Need-mul-value Inv-loop μ-loop Inv-states μ-states
+mul-value c = omega arith
+
+shared-slice-read-value : tie.Need-shared-slice-read-value Inv-loop μ-loop Inv-states μ-states
+shared-slice-read-value c = omega arith
+
+cast-value : tie.Need-cast-value Inv-loop μ-loop Inv-states μ-states
+cast-value c = omega (arith, c .shared-slice-known3 .given (c .before .before .states .s))
+
+add-end : tie.Need-add-end Inv-loop μ-loop Inv-states μ-states
+add-end c = omega arith
+
+mul-end : tie.Need-mul-end Inv-loop μ-loop Inv-states μ-states
+mul-end c = omega arith
+
+element-copy-out-end : tie.Need-element-copy-out-end Inv-loop μ-loop Inv-states μ-states
+element-copy-out-end c = omega arith
+
+cast-end : tie.Need-cast-end Inv-loop μ-loop Inv-states μ-states
+cast-end c = omega (arith, rows-high _ _ (c .before .before .before .before .before .before .pre .0) (c .before .before .before .states .s) (omega arith))
+
+mul-r : tie.Need-mul-r Inv-loop μ-loop Inv-states μ-states
+mul-r c = omega arith
+
+element-copy-out-r : tie.Need-element-copy-out-r Inv-loop μ-loop Inv-states μ-states
+element-copy-out-r c = omega arith
+
+cast-r : tie.Need-cast-r Inv-loop μ-loop Inv-states μ-states
+cast-r c =
+    let begin = rows-begin _ _ (c .before .before .before .before .before .before .before .pre .0) (c .before .before .before .before .states .s) (omega arith) in
+    let end = rows-end _ _ (c .before .before .before .before .before .before .before .pre .0) (c .before .before .before .before .states .s) (omega arith) in
+    omega (arith, rows-high _ _ (c .before .before .before .before .before .before .before .pre .0) (c .before .before .before .before .states .s) (omega arith))
+
+loop-holds : tie.Need-loop-holds Inv-loop μ-loop Inv-states μ-states
+loop-holds c =
+    let begin = rows-begin _ _ (c .before .before .before .before .before .before .before .pre .0) (c .before .before .before .before .states .s) (omega arith) in
+    let end = rows-end _ _ (c .before .before .before .before .before .before .before .pre .0) (c .before .before .before .before .states .s) (omega arith) in
+    (omega arith, c .before .before .before .before .states .inv .1, rows-start _ _ _ _ _ begin end)
+
+row-value-requires : tie.Need-row-value-requires Inv-loop μ-loop Inv-states μ-states
+row-value-requires c κs = row-ready _ _ (c .before .before .before .before .before .before .before .before .before .pre .0) (c .before .before .before .before .before .before .states .s) (omega arith) _ _ (omega arith) (c .loop-test .taken)
+
+add-r : tie.Need-add-r Inv-loop μ-loop Inv-states μ-states
+add-r c = omega (arith, rows-high _ _ (c .before .before .before .before .before .before .before .before .before .before .before .pre .0) (c .before .before .before .before .before .before .before .before .states .s) (omega arith))
+
+loop-less : tie.Need-loop-less Inv-loop μ-loop Inv-states μ-states
+loop-less c = omega arith
+
+loop-again : tie.Need-loop-again Inv-loop μ-loop Inv-states μ-states
+loop-again c =
+    (omega arith, c .before .before .before .loop .inv .1, c .before .before .before .loop .inv .2 ∙ row-passes _ _ _ _ _ (c .before .before .loop-test .taken) (rw (← (c .before .row-value .ensures)) (c .if1 .left)))
+
+add-s : tie.Need-add-s Inv-loop μ-loop Inv-states μ-states
+add-s c = omega arith
+
+states-less : tie.Need-states-less Inv-loop μ-loop Inv-states μ-states
+states-less c = omega arith
+
+states-again : tie.Need-states-again Inv-loop μ-loop Inv-states μ-states
+states-again c =
+    let none = c .before .loop .inv .2 ∙ search-ends _ _ _ (c .before .loop .inv .0) (c .loop-test .left) in
+    let end = rows-end _ _ (c .before .before .before .before .before .before .before .before .before .pre .0) (c .before .before .before .before .before .before .states .s) (omega arith) in
+    (omega arith, c .before .loop .inv .1, c .before .before .before .before .before .before .states .inv .2 ∙ state-passes _ _ _ _ _ (c .before .before .before .before .before .states-test .taken) end none)
+
+returns : tie.Need-returns Inv-loop μ-loop Inv-states μ-states
+returns c =
+    record {
+      state-is = omega (arith, c .before .states .inv .2 ∙ search-ends _ _ _ (c .before .states .inv .0) (c .states-test .left));
+      row-is = λ l. absurd (omega arith);
+      row-there = c .before .states .inv .1;
+    }
+
+returns-2 : tie.Need-returns-2 Inv-loop μ-loop Inv-states μ-states
+returns-2 c =
+    let row = c .before .before .before .loop .inv .2 ∙ row-undercuts _ _ _ _ _ (c .before .before .loop-test .taken) (rw (← (c .before .row-value .ensures)) (c .if1 .taken)) in
+    let end = rows-end _ _ (c .before .before .before .before .before .before .before .before .before .before .before .pre .0) (c .before .before .before .before .before .before .before .before .states .s) (omega arith) in
+    record {
+      state-is = sym (c .before .before .before .before .before .before .before .before .states .inv .2 ∙ state-undercut _ _ _ _ _ _ (c .before .before .before .before .before .before .before .states-test .taken) end row (c .before .before .loop-test .taken));
+      row-is = λ _. sym row;
+      row-there = omega (arith, rows-high _ _ (c .before .before .before .before .before .before .before .before .before .before .before .pre .0) (c .before .before .before .before .before .before .before .before .states .s) (omega arith));
+    }
+
+pub first-undercut-spec : {M : Type 1} → statement M
+first-undercut-spec =
+    tie.close
+    (tie.spec Inv-loop μ-loop Inv-states μ-states
+    states-holds
+    mul-value
+    shared-slice-read-value
+    cast-value
+    add-end
+    mul-end
+    element-copy-out-end
+    cast-end
+    mul-r
+    element-copy-out-r
+    cast-r
+    loop-holds
+    row-value-requires
+    add-r
+    loop-less
+    loop-again
+    add-s
+    states-less
+    states-again
+    returns
+    returns-2)

@@ -1,0 +1,92 @@
+// The row value, and the first row whose value lies below its state's.
+use crate::index::INDEX;
+use crate::index::ROWS;
+use crate::numbers::u16_at;
+use crate::numbers::u32_at;
+ghost use mathlib.Core.Path.{_≡_};
+ghost use Prim.Native.Nat.{ℕ, _+_, _*_, _/_, _≤_, _<_};
+ghost use lib.ListN.{length};
+ghost use Rattle.model.specs.Bytes.{u32At};
+ghost use Rattle.model.specs.Rounds.{fillTo};
+ghost use Rattle.model.specs.Sections.{problemOf};
+ghost use Rattle.model.specs.Value.{rowValue, weightedSum, entry};
+ghost use Rattle.reading.specs.Ready.{Ready, RowReady, SumThere, Undercuts};
+ghost use Rattle.reading.specs.Tests.{outcomesIn};
+
+// The sum of w × V(successor) over the outcomes in `part`, 4 bytes each.
+fn weighted_sum(part: &[u8], values: &[u32]) -> u64
+    requires { ⌜ SumThere (now part) (length (now values)) ⌝ }
+    ensures { λ r. ⌜ r ≡ weightedSum (outcomesIn (now (part .entry))) (entry (now (values .entry))) ⌝ }
+{
+    let count = part.len() / 4;
+    let mut sum: u64 = 0;
+    let mut i = 0;
+    while i < count {
+        let successor = u16_at(part, 4 * i) as usize;
+        sum += (u16_at(part, 4 * i + 2) as u64) * (values[successor] as u64);
+        i += 1;
+    }
+    sum
+}
+
+// A weighted sum divided by 1,000, rounded down once.
+fn average(sum: u64) -> u64
+    ensures { λ r. ⌜ r ≡ sum / 1000 ⌝ }
+{
+    sum / 1000
+}
+
+// The value of row r under `values`: its cost in ticks and the weighted sum, divided by 1,000 once.
+pub fn row_value(file: &[u8], index: &[u32; INDEX], values: &[u32], r: usize) -> u64
+    requires { ⌜ RowReady (now file) (now index) (length (now values)) r ⌝ }
+    ensures { λ q. ⌜ q ≡ rowValue (problemOf (now (file .entry))) (entry (now (values .entry))) r ⌝ }
+{
+    let from = index[ROWS + 2 * r] as usize;
+    let cost = index[ROWS + 2 * r + 1] as u64;
+    let to = index[ROWS + 2 * r + 2] as usize;
+    cost + average(weighted_sum(&file[from..to], values))
+}
+
+// The first state with a row whose value lies below the state's, and its first such row.
+pub struct Undercut {
+    pub state: usize,
+    pub row: usize,
+}
+
+// "It stops at the first row, states in order, whose value lies below its state's"; state n where there is none.
+pub fn first_undercut(file: &[u8], index: &[u32; INDEX], values: &[u32], n: usize) -> Undercut
+    requires { ⌜ (Ready (now file) (now index)) × (n ≡ problemOf (now file) .states) × (n ≤ length (now values)) ⌝ }
+    ensures { λ u. ⌜ Undercuts (now (file .entry)) (entry (now (values .entry))) (u .state) (u .row) ⌝ }
+{
+    let mut s = 0;
+    let mut found = 0;
+    'states: while s < n {
+        let value = values[s] as u64;
+        let end = index[s + 1] as usize;
+        let mut r = index[s] as usize;
+        while r < end {
+            if row_value(file, index, values, r) < value {
+                found = r;
+                break 'states;
+            }
+            r += 1;
+        }
+        s += 1;
+    }
+    Undercut {
+        state: s,
+        row: found,
+    }
+}
+
+// Fills in the estimates of the n states at `at`.
+pub fn estimates(file: &[u8], at: usize, n: usize, values: &mut [u32])
+    requires { ⌜ (at + 6 * n ≤ length (now file)) × (n ≤ length (now values)) ⌝ }
+    ensures { λ _. ⌜ now (values .exit) ≡ fillTo (λ s. u32At (now (file .entry)) (at + 6 * s)) (now (values .entry)) n ⌝ }
+{
+    let mut s = 0;
+    while s < n {
+        values[s] = u32_at(file, at + 6 * s);
+        s += 1;
+    }
+}

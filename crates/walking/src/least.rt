@@ -1,0 +1,74 @@
+// "C is the least of 1000 × c or 1000 × D over the picks at reached states that aren't goals."
+use crate::walk::MARKS;
+use crate::walk::is_goal;
+use reading::index::INDEX;
+use reading::index::ROWS;
+use reading::numbers::u32_at;
+ghost use mathlib.Core.Path.{_≡_};
+ghost use Prim.Native.Nat.{_+_, _*_, _<_};
+ghost use mathlib.Core.Logic.{_⊎_};
+ghost use lib.ListN.{getD};
+ghost use Rattle.model.specs.Problem.{giveUpCost};
+ghost use Rattle.model.specs.Sections.{problemOf};
+ghost use Rattle.model.specs.Value.{entry};
+ghost use Rattle.model.specs.Walk.{leastTo};
+ghost use Rattle.walking.specs.Trails.{Walkable};
+ghost use Rattle.walking.specs.Costs.{PickCosts, Costed, lowerTo};
+
+// What a pick costs: the limit where it gives up, else its row's cost in ticks.
+fn pick_cost(index: &[u32; INDEX], pick: u16, limit: u32) -> u32
+    requires { ⌜ (pick ≡ 65535) ⊎ (pick < 4096) ⌝ }
+    ensures { λ r. ⌜ PickCosts (now (index .entry)) pick limit r ⌝ }
+{
+    if pick == 65535 {
+        return limit;
+    }
+    index[ROWS + 2 * (pick as usize) + 1]
+}
+
+// The lower of `least` and what the pick at s costs, where s is marked and no goal; else `least`.
+fn lower(
+    file: &[u8],
+    index: &[u32; INDEX],
+    picks: &[u16],
+    marks: &[u8; MARKS],
+    limit: u32,
+    s: usize,
+    least: u32,
+) -> u32
+    requires { ⌜ Walkable (now file) (now index) × Costed (now file) (now picks) (now marks)
+        × (limit ≡ giveUpCost (problemOf (now file))) × (s < problemOf (now file) .states) ⌝ }
+    ensures { λ r. ⌜ r ≡ lowerTo (now (file .entry)) (now (picks .entry)) (now (marks .entry)) s least ⌝ }
+{
+    if is_goal(file, s) {
+        return least;
+    }
+    if marks[s] == 0 {
+        return least;
+    }
+    let cost = pick_cost(index, picks[s], limit);
+    if cost < least { cost } else { least }
+}
+
+// The least cost of the picks at the start and at the marked states, of the first n, that are no goals.
+pub fn least_cost(
+    file: &[u8],
+    index: &[u32; INDEX],
+    picks: &[u16],
+    marks: &[u8; MARKS],
+    n: usize,
+) -> u32
+    requires { ⌜ Walkable (now file) (now index) × Costed (now file) (now picks) (now marks)
+        × (n ≡ problemOf (now file) .states) × (getD (now marks) (problemOf (now file) .start) 0 ≡ 1) ⌝ }
+    ensures { λ r. ⌜ r ≡ leastTo (problemOf (now (file .entry))) (entry (now (picks .entry))) (now (marks .entry)) n ⌝ }
+{
+    let limit = 1000 * u32_at(file, 10);
+    let start = u32_at(file, 2) as usize;
+    let mut least = pick_cost(index, picks[start], limit);
+    let mut s = 0;
+    while s < n {
+        least = lower(file, index, picks, marks, limit, s, least);
+        s += 1;
+    }
+    least
+}

@@ -1,0 +1,133 @@
+// "Walk from the start with the picks as they are": visit_state and visit_outcomes call each other.
+use reading::index::INDEX;
+use reading::index::ROWS;
+use reading::numbers::byte_at;
+use reading::numbers::u16_at;
+use reading::numbers::u32_at;
+ghost use mathlib.Core.Path.{_≡_};
+ghost use Prim.Native.Nat.{_+_, _*_, _≤_, _<_};
+ghost use lib.ListN.{length, getD};
+ghost use Rattle.model.specs.Sections.{problemOf, statesAt};
+ghost use Rattle.walking.specs.Trails.{Walkable, Picked, Outcomes, Under, Over, Walked, visitedState, visitedOutcomes};
+
+// "Each walk begins with 1,024 marks": one for each state that a file can have.
+pub const MARKS: usize = 1024;
+
+// A part of the file, from a byte up to another.
+struct Part {
+    from: usize,
+    to: usize,
+}
+
+fn wide(x: u32) -> usize
+    ensures { λ r. ⌜ r ≡ x ⌝ }
+{
+    x as usize
+}
+
+// Entry i of the index.
+fn entry(index: &[u32; INDEX], i: usize) -> usize
+    requires { ⌜ i < 9219 ⌝ }
+    ensures { λ r. ⌜ r ≡ getD (now (index .entry)) i 0 ⌝ }
+{
+    wide(index[i])
+}
+
+// Where the outcomes of row `pick` stand; an empty part where it is not one of state s's own.
+fn picked(index: &[u32; INDEX], s: usize, pick: usize) -> Part
+    requires { ⌜ (s < 1024) × (getD (now index) (s + 1) 0 ≤ 4096) ⌝ }
+    ensures { λ r. ⌜ Picked (now (index .entry)) s pick (r .from) (r .to) ⌝ }
+{
+    if pick < entry(index, s) {
+        return Part { from: 0, to: 0 };
+    }
+    if entry(index, s + 1) <= pick {
+        return Part { from: 0, to: 0 };
+    }
+    Part {
+        from: entry(index, ROWS + 2 * pick),
+        to: entry(index, ROWS + 2 * pick + 2),
+    }
+}
+
+// Whether state s is a goal.
+pub fn is_goal(file: &[u8], s: usize) -> bool
+    requires { ⌜ (statesAt (now file) ≡ 14) × (21 + 6 * s + 1 ≤ length (now file)) ⌝ }
+    ensures { λ r. ⌜ r ≡ problemOf (now (file .entry)) .goal s ⌝ }
+{
+    byte_at(file, 21 + 6 * s) == 1
+}
+
+// Visits state s, which is not marked: marks it, visits its outcomes, and then lists it unless it is a goal. The list has n
+// states before, and as many as the answer says after.
+fn visit_state(
+    file: &[u8],
+    index: &[u32; INDEX],
+    picks: &[u16],
+    marks: &mut [u8; MARKS],
+    list: &mut [u16],
+    s: usize,
+    n: usize,
+) -> usize
+    requires { ⌜ Under (now file) (now index) (now picks) (now marks) (now list) n
+        × (s < problemOf (now file) .states) × (getD (now marks) s 0 ≡ 0) ⌝ }
+    ensures { λ r.
+        ⌜ Over
+        (now (file .entry)) (now (picks .entry)) (visitedState (now (file .entry)) (now (picks .entry)) s)
+        (now (marks .entry)) (now (list .entry)) n (now (marks .exit)) (now (list .exit)) r ⌝ }
+{
+    marks[s] = 1;
+    let part = picked(index, s, picks[s] as usize);
+    let k = visit_outcomes(file, index, picks, marks, list, part.from, part.to, n);
+    if is_goal(file, s) {
+        return k;
+    }
+    list[k] = s as u16;
+    k + 1
+}
+
+// Visits the outcomes that stand from byte `from` up to byte `to`, in order, where their states are not marked.
+fn visit_outcomes(
+    file: &[u8],
+    index: &[u32; INDEX],
+    picks: &[u16],
+    marks: &mut [u8; MARKS],
+    list: &mut [u16],
+    from: usize,
+    to: usize,
+    n: usize,
+) -> usize
+    requires { ⌜ Under (now file) (now index) (now picks) (now marks) (now list) n × Outcomes (now file) from to ⌝ }
+    ensures { λ r.
+        ⌜ Over
+        (now (file .entry)) (now (picks .entry)) (visitedOutcomes (now (file .entry)) (now (picks .entry)) from to)
+        (now (marks .entry)) (now (list .entry)) n (now (marks .exit)) (now (list .exit)) r ⌝ }
+{
+    let mut i = from;
+    let mut k = n;
+    while i < to {
+        let t = u16_at(file, i) as usize;
+        i += 4;
+        if marks[t] == 0 {
+            k = visit_state(file, index, picks, marks, list, t, k);
+        }
+    }
+    k
+}
+
+// Walks from the start: marks the reached states, lists those that are no goals, and answers how many are listed.
+pub fn walk(
+    file: &[u8],
+    index: &[u32; INDEX],
+    picks: &[u16],
+    marks: &mut [u8; MARKS],
+    list: &mut [u16],
+) -> usize
+    requires { ⌜ Walkable (now file) (now index)
+        × (problemOf (now file) .states ≤ length (now picks)) × (problemOf (now file) .states ≤ length (now list)) ⌝ }
+    ensures { λ r.
+        ⌜ Walked (now (file .entry)) (now (picks .entry)) (now (list .entry)) (now (marks .exit)) (now (list .exit)) r ⌝ }
+{
+    *marks = [0u8; MARKS];
+    visit_state(file, index, picks, marks, list, u32_at(file, 2) as usize, 0)
+}

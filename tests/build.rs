@@ -1,0 +1,27 @@
+//! Links the product's archive to the programs that call it, and to no other: the library's own
+//! tests, `compare_plan` and `make_examples` are built where no archive stands.
+
+use std::path::PathBuf;
+
+/// The programs that call the product's C interface. Each declares only the functions it uses, so
+/// each links as soon as the archive has those.
+const CALLERS: [&str; 4] = ["compare_reading", "compare_solving", "compare_audit", "bench"];
+
+/// The folder of `libcapi.a`: the one named in `CAPI_DIR`, or the repository's own.
+fn archive_folder() -> PathBuf {
+    let package = PathBuf::from(std::env::var("CARGO_MANIFEST_DIR").expect("set by cargo"));
+    match std::env::var("CAPI_DIR") {
+        Ok(folder) => package.join(folder),
+        Err(_) => package.join("../target/staticlib"),
+    }
+}
+
+fn main() {
+    let archive = archive_folder().join("libcapi.a");
+    println!("cargo:rerun-if-env-changed=CAPI_DIR");
+    println!("cargo:rerun-if-changed=build.rs");
+    println!("cargo:rerun-if-changed={}", archive.display());
+    for caller in CALLERS {
+        println!("cargo:rustc-link-arg-bin={caller}={}", archive.display());
+    }
+}

@@ -1,0 +1,200 @@
+//! Times the product's `cuulipso_solve` against `solver.rs`, on the same files in the same process,
+//! the two by turns. Both read the file from its bytes, put questions 1 to 11, and solve.
+//!
+//! Both write into the same lent tables. The buffers are not cleared between runs: each run finds
+//! what the run before left there.
+//!
+//! `bench [seed] [files per load]`
+
+use comparisons::harness::argument;
+use comparisons::limits::{MAX_ROWS, MAX_STATES};
+use comparisons::loads::{Load, LOADS};
+use comparisons::random::Random;
+use comparisons::solver::{solve_file, Answer, OwnedTables, Run};
+use std::hint::black_box;
+use std::process::ExitCode;
+use std::time::Instant;
+
+extern "C" {
+    fn cuulipso_solve(
+        file: *const u8,
+        file_length: usize,
+        budget: u64,
+        values: *mut u32,
+        values_length: usize,
+        picks: *mut u16,
+        picks_length: usize,
+        remembered: *mut u32,
+        remembered_length: usize,
+        walk: *mut u16,
+        walk_length: usize,
+        answer: *mut u64,
+        answer_length: usize,
+    ) -> u8;
+}
+
+/// The sizes timed, each with the highest ratio of the product's time to Rust's that is let pass.
+const BARS: [(usize, f64); 4] = [(16, 1.05), (64, 1.05), (256, 0.95), (1_024, 0.95)];
+/// The rounds of a run.
+const BUDGET: u64 = 10_000;
+/// Pairs of timings for each file.
+const PAIRS: usize = 15;
+/// What one timing should last, in seconds.
+const LASTS: f64 = 0.000_5;
+
+/// The product's run: its code and answer.
+fn product(file: &[u8], tables: &mut OwnedTables) -> (u8, [u64; 3]) {
+    let mut answer = [0; 3];
+    // SAFETY: each pointer stands with its slice's own length.
+    let code = unsafe {
+        cuulipso_solve(
+            file.as_ptr(),
+            file.len(),
+            BUDGET,
+            tables.values.as_mut_ptr(),
+            tables.values.len(),
+            tables.picks.as_mut_ptr(),
+            tables.picks.len(),
+            tables.remembered.as_mut_ptr(),
+            tables.remembered.len(),
+            tables.walk.as_mut_ptr(),
+            tables.walk.len(),
+            answer.as_mut_ptr(),
+            answer.len(),
+        )
+    };
+    (code, answer)
+}
+
+/// The Rust run.
+fn rust(file: &[u8], tables: &mut OwnedTables) -> Run {
+    solve_file(file, BUDGET, tables.lend())
+}
+
+/// Tables long enough for every file.
+fn tables() -> OwnedTables {
+    OwnedTables {
+        values: vec![0; MAX_STATES],
+        picks: vec![0; MAX_STATES],
+        remembered: vec![0; MAX_ROWS],
+        walk: vec![0; MAX_STATES],
+    }
+}
+
+/// The seconds that `times` runs last.
+fn seconds<T>(times: usize, mut run: impl FnMut() -> T) -> f64 {
+    let begin = Instant::now();
+    for _ in 0..times {
+        black_box(run());
+    }
+    begin.elapsed().as_secs_f64()
+}
+
+/// The middle of a list of numbers.
+fn median(mut numbers: Vec<f64>) -> f64 {
+    numbers.sort_by(f64::total_cmp);
+    numbers[numbers.len() / 2]
+}
+
+/// What was measured on some files.
+#[derive(Default)]
+struct Measured {
+    ratios: Vec<f64>,
+    product: Vec<f64>,
+    rust: Vec<f64>,
+    rounds: u64,
+    evaluations: u64,
+    full_count: u64,
+    differences: u64,
+}
+
+impl Measured {
+    /// Runs both sides once, compares them in answer and tables, and adds to the counts.
+    fn compare(&mut self, file: &[u8]) {
+        let (mut ours, mut theirs) = (tables(), tables());
+        let run = rust(file, &mut ours);
+        let (asked, counts) = match run.answer {
+            Answer::Solved { rounds, evaluations, least_cost } => {
+                ((1, [rounds, evaluations, u64::from(least_cost)]), [rounds, evaluations])
+            }
+            Answer::Spent { rounds, evaluations } => {
+                ((2, [rounds, evaluations, 0]), [rounds, evaluations])
+            }
+            Answer::Refused(refusal) => ((0, [refusal.question, refusal.place, 0]), [0, 0]),
+        };
+        let given = product(file, &mut theirs);
+        self.differences += u64::from(given != asked || theirs != ours);
+        self.rounds += counts[0];
+        self.evaluations += counts[1];
+        self.full_count += run.full_count;
+    }
+
+    /// Times both sides by turns, the first of a pair changing from pair to pair.
+    fn time(&mut self, file: &[u8]) {
+        let mut lent = tables();
+        let once = seconds(1, || rust(file, &mut lent)).max(1e-9);
+        let times = (LASTS / once).ceil().max(1.0) as usize;
+        for pair in 0..PAIRS {
+            let first = (pair % 2 == 0).then(|| seconds(times, || product(file, &mut lent)));
+            let theirs = seconds(times, || rust(file, &mut lent));
+            let given = first.unwrap_or_else(|| seconds(times, || product(file, &mut lent)));
+            self.ratios.push(given / theirs);
+            self.product.push(given / times as f64);
+            self.rust.push(theirs / times as f64);
+        }
+    }
+
+    /// Measures a load at a size on files of a seed.
+    fn load(load: &Load, states: usize, seed: u64, files: u64) -> Measured {
+        let mut measured = Measured::default();
+        for number in 0..files {
+            let file = load.file(&mut Random::new(seed ^ (number << 20)), states);
+            measured.compare(&file);
+            measured.time(&file);
+        }
+        measured
+    }
+
+    /// Prints a line about a load.
+    fn print(&self, name: &str, states: usize) {
+        println!(
+            "{states:>5}  {name:<23} {:>8.3} {:>12.1} {:>12.1} {:>8} {:>12} {:>12}",
+            median(self.ratios.clone()),
+            median(self.product.clone()) * 1e6,
+            median(self.rust.clone()) * 1e6,
+            self.rounds,
+            self.evaluations,
+            self.full_count,
+        );
+    }
+}
+
+fn main() -> ExitCode {
+    let (seed, files) = (argument(1, 1), argument(2, 5));
+    let mut differences = 0;
+    let mut verdicts = Vec::new();
+    println!("ratio: the product's time over Rust's, median; times in microseconds a run, median;");
+    println!("rounds, evaluations and full count: sums over {files} files; buffers not cleared");
+    println!(
+        "{:>5}  {:<23} {:>8} {:>12} {:>12} {:>8} {:>12} {:>12}",
+        "size", "load", "ratio", "product", "rust", "rounds", "evaluations", "full count"
+    );
+    for (states, bar) in BARS {
+        let mut ratios = Vec::new();
+        for load in &LOADS {
+            let measured = Measured::load(load, states, seed, files);
+            measured.print(load.name, states);
+            differences += measured.differences;
+            ratios.extend(measured.ratios);
+        }
+        let ratio = median(ratios);
+        let word = if ratio <= bar { "within" } else { "above" };
+        verdicts.push(format!("{states:>5} states: ratio {ratio:.3}, {word} the bar of {bar}"));
+    }
+    println!("{}\n{differences} differences", verdicts.join("\n"));
+    if differences == 0 {
+        ExitCode::SUCCESS
+    } else {
+        ExitCode::FAILURE
+    }
+}

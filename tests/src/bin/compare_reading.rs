@@ -1,0 +1,148 @@
+//! Compares the product's reading of problem files with `problem.rs`: the answer to questions 1 to
+//! 11 and the stretch of a state's rows, on files whole and damaged.
+//!
+//! `compare_reading [seed] [files]`
+
+use comparisons::damage::damaged;
+use comparisons::encode::Draft;
+use comparisons::examples::{file_p, one_state};
+use comparisons::harness::{argument, noise, Tally};
+use comparisons::limits::{MAX_PENALTY, MAX_STATES, ROW_BYTES};
+use comparisons::made::{at_limits, deep_chain, made};
+use comparisons::problem::{lookup, Problem};
+use comparisons::random::Random;
+use std::process::ExitCode;
+
+extern "C" {
+    fn cuulipso_check(
+        file: *const u8,
+        file_length: usize,
+        answer: *mut u64,
+        answer_length: usize,
+    ) -> u8;
+    fn cuulipso_rows(
+        file: *const u8,
+        file_length: usize,
+        state: u64,
+        out: *mut u8,
+        out_length: usize,
+    ) -> u64;
+}
+
+/// The entries that an answer needs.
+const ANSWER: usize = 3;
+/// The code of a file that passes, of a refusal, and of an answer lent too short.
+const PASSED: u8 = 3;
+const REFUSED: u8 = 0;
+const TOO_SHORT: u8 = 4;
+
+/// How often each of the questions 1 to 11 must be met.
+const LEAST_MET: u64 = 50;
+
+/// The product's check of a file.
+fn check(file: &[u8], answer: &mut [u64]) -> u8 {
+    // SAFETY: each pointer stands with its slice's own length.
+    unsafe { cuulipso_check(file.as_ptr(), file.len(), answer.as_mut_ptr(), answer.len()) }
+}
+
+/// The product's lookup of a state's rows.
+fn rows(file: &[u8], state: u64, out: &mut [u8]) -> u64 {
+    // SAFETY: each pointer stands with its slice's own length.
+    unsafe { cuulipso_rows(file.as_ptr(), file.len(), state, out.as_mut_ptr(), out.len()) }
+}
+
+/// The code and the answer that the paper asks for.
+fn asked_check(file: &[u8]) -> (u8, [u64; ANSWER]) {
+    match Problem::read(file) {
+        Ok(_) => (PASSED, [0, 0, 0]),
+        Err(refusal) => (REFUSED, [refusal.question, refusal.place, 0]),
+    }
+}
+
+/// Compares the check of a file, with answers lent at every length from 0 to 5.
+fn compare_check(random: &mut Random, tally: &mut Tally, file: &[u8]) {
+    let (code, answer) = asked_check(file);
+    match code {
+        PASSED => tally.count("passed"),
+        _ => tally.meet(answer[0]),
+    }
+    for length in [random.below(ANSWER), ANSWER, ANSWER + 1 + random.below(2)] {
+        let mut given: Vec<u64> = noise(random, length);
+        let mut asked = given.clone();
+        let mut asked_code = TOO_SHORT;
+        if length >= ANSWER {
+            asked[..ANSWER].copy_from_slice(&answer);
+            asked_code = code;
+        }
+        let given_code = check(file, &mut given);
+        tally.hold("check's code", &given_code, &asked_code);
+        tally.hold("check's answer", &given, &asked);
+    }
+}
+
+/// Compares the lookup of a few numbers, states and others, with outputs of several lengths.
+fn compare_rows(random: &mut Random, tally: &mut Tally, file: &[u8]) {
+    let states = Problem::read(file).map_or(3, |problem| problem.states.len()) as u64;
+    let within = random.below(states as usize) as u64;
+    let far = [states, within + 65_536, within + (1 << 32), 1_024, 1 << 63, u64::MAX];
+    for state in [0, within, states - 1, random.pick(&far)] {
+        let stretch = lookup(file, state);
+        let lengths = [0, stretch.len(), stretch.len().saturating_sub(1 + random.below(ROW_BYTES))];
+        let longer = stretch.len() + 1 + random.below(9);
+        let length = random.pick(&[lengths[0], lengths[1], lengths[2], longer]);
+        let mut given: Vec<u8> = noise(random, length);
+        let mut asked = given.clone();
+        let fitting = length.min(stretch.len());
+        asked[..fitting].copy_from_slice(&stretch[..fitting]);
+        let given_length = rows(file, state, &mut given);
+        tally.hold("the stretch's length", &given_length, &(stretch.len() as u64));
+        tally.hold("the stretch", &given, &asked);
+        tally.count(if stretch.is_empty() { "stretches, empty" } else { "stretches, with rows" });
+    }
+}
+
+/// The draft behind the file of a number: the paper's, those at the limits, and made ones.
+fn draft_of(random: &mut Random, number: u64) -> Draft {
+    match number % 600 {
+        0 => file_p(),
+        1 => one_state(),
+        2 => {
+            let with_goal = random.once_in(2);
+            at_limits(random, with_goal, MAX_PENALTY)
+        }
+        3 => deep_chain(random, MAX_STATES, 8, true),
+        _ => made(random),
+    }
+}
+
+/// Every cut of file P, and P lengthened: any slice length from 0 bytes.
+fn compare_cuts(random: &mut Random, tally: &mut Tally) {
+    let whole = file_p().bytes();
+    for length in 0..=whole.len() {
+        tally.case = format!("P cut to {length} bytes");
+        compare_check(random, tally, &whole[..length]);
+        compare_rows(random, tally, &whole[..length]);
+    }
+    let mut long = whole;
+    long.resize(200_000, 0);
+    tally.case = "P lengthened to 200,000 bytes".into();
+    compare_check(random, tally, &long);
+    compare_rows(random, tally, &long);
+}
+
+fn main() -> ExitCode {
+    let (seed, files) = (argument(1, 1), argument(2, 30_000));
+    let mut tally = Tally::default();
+    compare_cuts(&mut Random::new(seed), &mut tally);
+    for number in 0..files {
+        let mut random = Random::new(seed ^ (number << 20));
+        let draft = draft_of(&mut random, number);
+        let whole = random.once_in(5);
+        let file = if whole { draft.bytes() } else { damaged(&mut random, &draft) };
+        tally.case = format!("seed {seed}, file {number}, {} bytes", file.len());
+        tally.count("files");
+        compare_check(&mut random, &mut tally, &file);
+        compare_rows(&mut random, &mut tally, &file);
+    }
+    tally.close(1..=11, LEAST_MET)
+}

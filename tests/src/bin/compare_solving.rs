@@ -1,0 +1,219 @@
+//! Compares the product's runs with `solver.rs`: the answer and every entry of the four lent tables,
+//! at budgets from 0 to the largest number, on files whole and damaged. All of it runs on a thread
+//! with a stack of 512 KiB.
+//!
+//! `compare_solving [seed] [files]`
+
+use comparisons::damage::damaged;
+use comparisons::encode::Draft;
+use comparisons::examples::{file_p, one_state};
+use comparisons::harness::{argument, noise, Tally};
+use comparisons::limits::*;
+use comparisons::made::{at_limits, deep_chain, made};
+use comparisons::problem::Problem;
+use comparisons::random::Random;
+use comparisons::solver::{solve, solve_file, Answer, OwnedTables};
+use std::process::ExitCode;
+
+extern "C" {
+    fn cuulipso_solve(
+        file: *const u8,
+        file_length: usize,
+        budget: u64,
+        values: *mut u32,
+        values_length: usize,
+        picks: *mut u16,
+        picks_length: usize,
+        remembered: *mut u32,
+        remembered_length: usize,
+        walk: *mut u16,
+        walk_length: usize,
+        answer: *mut u64,
+        answer_length: usize,
+    ) -> u8;
+}
+
+/// The entries that an answer needs.
+const ANSWER: usize = 3;
+/// The codes of a refusal, of a solved and a spent run, and of an answer lent too short.
+const REFUSED: u8 = 0;
+const SOLVED: u8 = 1;
+const SPENT: u8 = 2;
+const TOO_SHORT: u8 = 4;
+
+/// The stack that the runs must do with.
+const STACK: usize = 512 * 1_024;
+/// A file whose run takes more rounds than this is run no further.
+const MOST_ROUNDS: u64 = 20_000;
+/// Rounds from which a solved run is counted apart.
+const MANY_ROUNDS: u64 = 100;
+/// A budget that is large and yet below the highest.
+const LARGE: u64 = 1_000_000;
+/// How often questions 12 and 13 must be met.
+const LEAST_MET: u64 = 1_000;
+
+/// The product's run.
+fn product(file: &[u8], budget: u64, tables: &mut OwnedTables, answer: &mut [u64]) -> u8 {
+    // SAFETY: each pointer stands with its slice's own length.
+    unsafe {
+        cuulipso_solve(
+            file.as_ptr(),
+            file.len(),
+            budget,
+            tables.values.as_mut_ptr(),
+            tables.values.len(),
+            tables.picks.as_mut_ptr(),
+            tables.picks.len(),
+            tables.remembered.as_mut_ptr(),
+            tables.remembered.len(),
+            tables.walk.as_mut_ptr(),
+            tables.walk.len(),
+            answer.as_mut_ptr(),
+            answer.len(),
+        )
+    }
+}
+
+/// The paper's run: its code and its answer.
+fn paper(file: &[u8], budget: u64, tables: &mut OwnedTables) -> (u8, [u64; ANSWER]) {
+    match solve_file(file, budget, tables.lend()).answer {
+        Answer::Solved { rounds, evaluations, least_cost } => {
+            (SOLVED, [rounds, evaluations, u64::from(least_cost)])
+        }
+        Answer::Spent { rounds, evaluations } => (SPENT, [rounds, evaluations, 0]),
+        Answer::Refused(refusal) => (REFUSED, [refusal.question, refusal.place, 0]),
+    }
+}
+
+/// Tables of noise: mostly longer than needed, or just long enough, or one of them short.
+fn lent(random: &mut Random, states: usize, rows: usize) -> OwnedTables {
+    let mut lengths = [states, states, rows, states];
+    match random.below(8) {
+        0 => {
+            let table = random.below(lengths.len());
+            lengths[table] = lengths[table].saturating_sub(1);
+        }
+        1 => lengths.iter_mut().for_each(|length| *length -= random.below(2).min(*length)),
+        2..=3 => {}
+        _ => lengths.iter_mut().for_each(|length| *length += random.below(20)),
+    }
+    OwnedTables {
+        values: noise(random, lengths[0]),
+        picks: noise(random, lengths[1]),
+        remembered: noise(random, lengths[2]),
+        walk: noise(random, lengths[3]),
+    }
+}
+
+/// Compares one run on tables of noise, the answer lent at any length from 0 to 5.
+fn compare_run(
+    random: &mut Random,
+    tally: &mut Tally,
+    file: &[u8],
+    budget: u64,
+    sizes: [usize; 2],
+) {
+    let mut given = lent(random, sizes[0], sizes[1]);
+    let mut asked = given.clone();
+    let length = match random.below(12) {
+        0 => random.below(ANSWER),
+        1..=2 => ANSWER + 1 + random.below(2),
+        _ => ANSWER,
+    };
+    let mut given_answer: Vec<u64> = noise(random, length);
+    let mut asked_answer = given_answer.clone();
+    let mut asked_code = TOO_SHORT;
+    if length >= ANSWER {
+        let (code, answer) = paper(file, budget, &mut asked);
+        asked_code = code;
+        asked_answer[..ANSWER].copy_from_slice(&answer);
+    }
+    match asked_code {
+        REFUSED => tally.meet(asked_answer[0]),
+        SOLVED if asked_answer[0] >= MANY_ROUNDS => tally.count("solved after 100 rounds or more"),
+        SOLVED => tally.count("solved before"),
+        SPENT => tally.count("spent"),
+        _ => tally.count("answers lent too short"),
+    }
+    let given_code = product(file, budget, &mut given, &mut given_answer);
+    tally.hold("the code", &given_code, &asked_code);
+    tally.hold("the answer", &given_answer, &asked_answer);
+    tally.hold("the values", &given.values, &asked.values);
+    tally.hold("the picks", &given.picks, &asked.picks);
+    tally.hold("the remembered values", &given.remembered, &asked.remembered);
+    tally.hold("the walk list", &given.walk, &asked.walk);
+}
+
+/// The budgets to run a file at: the paper's ends, small ones, and those about the run's own end.
+/// A file whose run does not end soon gets no budget between `MOST_ROUNDS` and the refused ones.
+fn budgets(tally: &mut Tally, problem: Option<&Problem>) -> Vec<u64> {
+    let mut budgets = vec![0, 1, 2, 3, 7, MAX_BUDGET + 1, u64::MAX];
+    let Some(problem) = problem else {
+        budgets.extend([LARGE, MAX_BUDGET]);
+        return budgets;
+    };
+    match solve(problem, MOST_ROUNDS, OwnedTables::new(problem).lend()).answer {
+        Answer::Solved { rounds, .. } => {
+            tally.count("files that end");
+            budgets.extend([rounds - 1, rounds, rounds + 1, LARGE, MAX_BUDGET]);
+        }
+        _ => {
+            tally.count("files that go on past 20,000 rounds");
+            budgets.push(MOST_ROUNDS);
+        }
+    }
+    budgets
+}
+
+/// Compares the runs on a file at all its budgets.
+fn compare_file(random: &mut Random, tally: &mut Tally, file: &[u8]) {
+    let problem = Problem::read(file).ok();
+    let sizes = match &problem {
+        Some(problem) => [problem.states.len(), problem.rows.len()],
+        None => [random.below(20), random.below(20)],
+    };
+    tally.count("files");
+    let case = std::mem::take(&mut tally.case);
+    for budget in budgets(tally, problem.as_ref()) {
+        tally.case = format!("{case}, budget {budget}");
+        compare_run(random, tally, file, budget, sizes);
+    }
+}
+
+/// The draft behind the file of a number: the paper's, those at the limits, chains, and made ones.
+fn draft_of(random: &mut Random, number: u64) -> Draft {
+    let with_goal = random.once_in(2);
+    match number {
+        0 => file_p(),
+        1 => one_state(),
+        2..=9 => {
+            let penalty = random.pick(&[1, 900, 5_000, MAX_PENALTY]);
+            at_limits(random, with_goal, penalty)
+        }
+        10..=15 => deep_chain(random, MAX_STATES, 8, with_goal),
+        16..=19 => deep_chain(random, MAX_STATES, 1, with_goal),
+        20..=23 => deep_chain(random, 32, MAX_IN_BYTE, with_goal),
+        _ => made(random),
+    }
+}
+
+/// Compares the files of a seed.
+fn compare(seed: u64, files: u64) -> ExitCode {
+    let mut tally = Tally::default();
+    for number in 0..files {
+        let mut random = Random::new(seed ^ (number << 20));
+        let draft = draft_of(&mut random, number);
+        let broken = number >= 24 && random.once_in(10);
+        let file = if broken { damaged(&mut random, &draft) } else { draft.bytes() };
+        tally.case = format!("seed {seed}, file {number}, {} bytes", file.len());
+        compare_file(&mut random, &mut tally, &file);
+    }
+    tally.close(12..=13, LEAST_MET)
+}
+
+fn main() -> ExitCode {
+    let (seed, files) = (argument(1, 1), argument(2, 10_500));
+    let thread = std::thread::Builder::new().stack_size(STACK);
+    let run = thread.spawn(move || compare(seed, files)).expect("a thread");
+    run.join().expect("the comparison ends")
+}

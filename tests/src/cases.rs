@@ -1,0 +1,155 @@
+//! The starred items of "Melt-room cases", a test or two each.
+
+use crate::audit::{audit_file, Verdict};
+use crate::encode::Draft;
+use crate::examples::{file_p, one_state};
+use crate::limits::*;
+use crate::listing::plan_lines;
+use crate::problem::{average, seconds_of, Outcome, Problem, Refusal};
+use crate::solver::{solve, Answer, OwnedTables, Run};
+
+/// The refusal of a draft's file, if it is refused.
+fn refusal(draft: &Draft) -> Option<Refusal> {
+    Problem::read(&draft.bytes()).err()
+}
+
+/// A run with as many rounds as `plan` has, and its tables.
+fn run(draft: &Draft) -> (Run, OwnedTables) {
+    let problem = Problem::read(&draft.bytes()).expect("whole");
+    let mut tables = OwnedTables::new(&problem);
+    (solve(&problem, PLAN_ROUNDS, tables.lend()), tables)
+}
+
+/// The verdict on P's answer with another value at the start.
+fn audit_p(change: impl Fn(&mut OwnedTables)) -> Verdict {
+    let (_, mut tables) = run(&file_p());
+    change(&mut tables);
+    audit_file(&file_p().bytes(), &tables.values, &tables.picks)
+}
+
+#[test]
+fn p_prints_whole() {
+    assert_eq!(plan_lines(&file_p().bytes()), "solved 3 5 100000\n0 370000 0\n1 300000 2\n");
+}
+
+#[test]
+fn p_has_a_full_count_of_eight() {
+    let answer = Answer::Solved { rounds: 3, evaluations: 5, least_cost: 100_000 };
+    assert_eq!(run(&file_p()).0, Run { answer, full_count: 8 });
+}
+
+#[test]
+fn p_leaves_the_machines_state() {
+    let (_, tables) = run(&file_p());
+    assert_eq!(tables.values, [370_000, 300_000, 0]);
+    assert_eq!(tables.picks, [0, 2, NO_PICK]);
+    assert_eq!(tables.remembered, [370_000, 600_000, 300_000]);
+    assert_eq!(tables.walk, [1, 0, GIVE_UP]);
+}
+
+#[test]
+fn budget_zero_leaves_the_first_state() {
+    let problem = Problem::read(&file_p().bytes()).expect("whole");
+    let mut tables = OwnedTables::new(&problem);
+    let run = solve(&problem, 0, tables.lend());
+    assert_eq!(run.answer, Answer::Spent { rounds: 0, evaluations: 0 });
+    assert_eq!(tables.values, [0, 0, 0]);
+    assert_eq!(tables.picks, [NO_PICK; 3]);
+    assert_eq!(tables.remembered, [100_000, 600_000, 300_000]);
+    assert_eq!(tables.walk, [GIVE_UP; 3]);
+}
+
+#[test]
+fn rates_cost_their_seconds() {
+    let costs = [10, 700, 999, 1_000].map(|rate| seconds_of(KIND_RATE, rate));
+    assert_eq!(costs, [Some(60_000), Some(858), Some(601), Some(600)]);
+    assert_eq!(seconds_of(KIND_RATE, 9), None);
+    assert_eq!(seconds_of(KIND_RATE, 1_001), None);
+}
+
+#[test]
+fn rates_9_and_1001_meet_question_8() {
+    for rate in [9, 1_001] {
+        let mut draft = file_p();
+        draft.rows[1].cost = rate;
+        assert_eq!(refusal(&draft), Some(Refusal { question: 8, place: 1 }));
+    }
+}
+
+/// The average of weights on values.
+fn average_of(weights: &[u16], values: &[u32]) -> u32 {
+    let outcome = |(at, &weight): (usize, &u16)| Outcome { successor: at as u16, weight };
+    let outcomes: Vec<Outcome> = weights.iter().enumerate().map(outcome).collect();
+    average(&outcomes, values)
+}
+
+#[test]
+fn averages_round_down_once() {
+    assert_eq!(average_of(&[500, 500], &[1, 1]), 1);
+    assert_eq!(average_of(&[1, 999], &[999, 0]), 0);
+    assert_eq!(average_of(&[1, 999], &[1_000, 0]), 1);
+}
+
+#[test]
+fn an_empty_file_meets_question_1() {
+    assert_eq!(Problem::read(&[]).err(), Some(Refusal { question: 1, place: 0 }));
+    assert_eq!(plan_lines(&[]), "refused 1 0\n");
+}
+
+#[test]
+fn a_tolerance_of_999_passes_and_1000_does_not() {
+    let mut draft = file_p();
+    draft.settings[1] = 999;
+    assert_eq!(refusal(&draft), None);
+    draft.settings[1] = 1_000;
+    assert_eq!(refusal(&draft), Some(Refusal { question: 4, place: 1 }));
+}
+
+#[test]
+fn an_estimate_of_100000_passes_and_100001_does_not() {
+    let mut draft = file_p();
+    draft.states[0].estimate = 100_000;
+    assert_eq!(refusal(&draft), None);
+    draft.states[0].estimate = 100_001;
+    assert_eq!(refusal(&draft), Some(Refusal { question: 11, place: 0 }));
+}
+
+#[test]
+fn p_answer_passes_the_audit() {
+    assert_eq!(audit_p(|_| ()), Verdict::Accepted { least_cost: 100_000 });
+}
+
+#[test]
+fn a_tick_above_meets_question_17() {
+    let verdict = audit_p(|tables| tables.values[0] = 370_001);
+    assert_eq!(verdict, Verdict::Refused { question: 17, place: 0, excess: 1 });
+}
+
+#[test]
+fn a_tick_below_meets_question_19() {
+    let verdict = audit_p(|tables| tables.values[0] = 369_999);
+    assert_eq!(verdict, Verdict::Refused { question: 19, place: 0, excess: -1 });
+}
+
+#[test]
+fn one_state_gives_up() {
+    assert_eq!(plan_lines(&one_state().bytes()), "solved 2 0 1000\n0 1000 give\n");
+}
+
+/// The numbers at the limits: a row value fits in 32 bits, so question 14 is never met.
+#[test]
+fn no_row_value_outgrows_32_bits() {
+    let dearest = u64::from(TICKS) * u64::from(u16::MAX);
+    let most = u64::from(TICKS) * u64::from(MAX_PENALTY);
+    assert!(dearest + most <= u64::from(u32::MAX));
+}
+
+#[test]
+fn the_examples_folder_holds_the_papers_files() {
+    let stored = |name: &str| {
+        let path = format!("{}/../examples/{name}", env!("CARGO_MANIFEST_DIR"));
+        std::fs::read(path).expect("an example")
+    };
+    assert_eq!(stored("P"), file_p().bytes());
+    assert_eq!(stored("one-state"), one_state().bytes());
+}

@@ -1,0 +1,113 @@
+//! What the comparison programs share: a count of the questions met, a list of differences, noise
+//! for lent tables, and the programs' arguments.
+
+use crate::random::Random;
+use std::fmt::Debug;
+use std::process::ExitCode;
+
+/// One past the highest question of document 01.
+const QUESTIONS: usize = 20;
+/// Differences beyond these are counted and not printed.
+const MOST_PRINTED: u64 = 10;
+
+/// How often each answer was met, and how often the two sides differed.
+#[derive(Default)]
+pub struct Tally {
+    /// The name of the case in hand, printed with a difference.
+    pub case: String,
+    met: [u64; QUESTIONS],
+    named: Vec<(&'static str, u64)>,
+    compared: u64,
+    differences: u64,
+}
+
+impl Tally {
+    /// Counts a refusal under a question.
+    pub fn meet(&mut self, question: u64) {
+        self.met[question as usize] += 1;
+    }
+
+    /// Counts an answer that is no refusal, or anything else worth a number.
+    pub fn count(&mut self, name: &'static str) {
+        match self.named.iter_mut().find(|(known, _)| *known == name) {
+            Some((_, count)) => *count += 1,
+            None => self.named.push((name, 1)),
+        }
+    }
+
+    /// Holds what the product gave against what the paper asks; says whether they are equal.
+    pub fn hold<T: PartialEq + Debug + ?Sized>(
+        &mut self,
+        what: &str,
+        given: &T,
+        asked: &T,
+    ) -> bool {
+        self.compared += 1;
+        if given == asked {
+            return true;
+        }
+        self.differences += 1;
+        if self.differences <= MOST_PRINTED {
+            println!("difference in {what}, {}", self.case);
+            println!("  product: {}", shortened(given));
+            println!("  paper:   {}", shortened(asked));
+        }
+        false
+    }
+
+    /// Prints the counts. Success where nothing differed and each question of the list was met at
+    /// least so often.
+    pub fn close(&self, questions: std::ops::RangeInclusive<usize>, least: u64) -> ExitCode {
+        for (name, count) in &self.named {
+            println!("{name}: {count}");
+        }
+        for (question, &count) in self.met.iter().enumerate().filter(|(_, &count)| count > 0) {
+            println!("question {question}: {count}");
+        }
+        let rare: Vec<usize> = questions.filter(|&question| self.met[question] < least).collect();
+        if !rare.is_empty() {
+            println!("met fewer than {least} times: questions {rare:?}");
+        }
+        println!("{} comparisons, {} differences", self.compared, self.differences);
+        match self.differences == 0 && rare.is_empty() {
+            true => ExitCode::SUCCESS,
+            false => ExitCode::FAILURE,
+        }
+    }
+}
+
+/// The front of what is printed of a table.
+fn shortened<T: Debug + ?Sized>(value: &T) -> String {
+    let text = format!("{value:?}");
+    text.chars().take(400).collect()
+}
+
+/// A number that fills a lent table before a call.
+pub trait Noise {
+    /// The number made from 64 random bits.
+    fn from_bits(bits: u64) -> Self;
+}
+
+macro_rules! noise {
+    ($($number:ty),*) => {
+        $(impl Noise for $number {
+            fn from_bits(bits: u64) -> Self {
+                bits as $number
+            }
+        })*
+    };
+}
+noise!(u8, u16, u32, u64, i64);
+
+/// A table of noise.
+pub fn noise<T: Noise>(random: &mut Random, length: usize) -> Vec<T> {
+    (0..length).map(|_| T::from_bits(random.bits())).collect()
+}
+
+/// The program's argument at a place, counted from 1, as a number, or what stands in for it.
+pub fn argument(place: usize, otherwise: u64) -> u64 {
+    match std::env::args().nth(place) {
+        Some(text) => text.parse().expect("a whole number"),
+        None => otherwise,
+    }
+}

@@ -1,0 +1,22 @@
+//! Document 01 in Rust, written from the paper and apart from the product: a reader, a solver and
+//! an audit, with made-up problem files to compare the product on.
+//!
+//! The programs under `src/bin` hold the product's answers against these.
+
+pub mod audit;
+pub mod damage;
+pub mod encode;
+pub mod examples;
+pub mod harness;
+pub mod limits;
+pub mod listing;
+pub mod loads;
+pub mod made;
+pub mod problem;
+pub mod random;
+pub mod solver;
+
+#[cfg(test)]
+mod cases;
+#[cfg(test)]
+mod plain;
