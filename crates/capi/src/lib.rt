@@ -1,11 +1,16 @@
 // The C interface: numbers and slices only. A slice is passed as a pointer and then a length.
+use model::AuditAnswer;
 use model::FileAnswer;
+use model::SolveAnswer;
 ghost use mathlib.Core.Path.{_≡_};
 ghost use Prim.Native.Nat.{ℕ, _≤_};
 ghost use lib.ListN.{length};
+ghost use Rattle.model.specs.Audit.{audit};
 ghost use Rattle.model.specs.Lookup.{rowsOf};
 ghost use Rattle.model.specs.Questions.{fileQuestions};
-ghost use Rattle.capi.specs.Interface.{Numbers, Written, checkNumbers, copied, three};
+ghost use Rattle.model.specs.Solution.{solution};
+ghost use Rattle.solving.specs.Solving.{tables};
+ghost use Rattle.capi.specs.Interface.{Numbers, Written, Solves, checkNumbers, auditNumbers, copied, three};
 
 // Writes three numbers to the front of a table that has room for them.
 fn put3(answer: &mut [u64], a: u64, b: u64, c: u64)
@@ -60,4 +65,96 @@ pub extern "C" fn cuulipso_rows(file: &[u8], state: u64, out: &mut [u8]) -> u64
     let rows = reading::questions::rows_of(file, state as usize);
     copy_front(rows, out);
     rows.len() as u64
+}
+
+// 1 solved, with answer rounds, evaluations, C; 2 spent, with rounds, evaluations, 0; 0 refused, with question, place, 0; 4 where
+// `answer` has fewer than 3 entries, and then nothing is done.
+#[no_mangle]
+pub extern "C" fn cuulipso_solve(
+    file: &[u8],
+    budget: u64,
+    values: &mut [u32],
+    picks: &mut [u16],
+    remembered: &mut [u32],
+    walk: &mut [u16],
+    answer: &mut [u64],
+) -> u8
+    ensures { λ r.
+        ⌜ Solves
+        (solution
+        (now (file .entry)) budget
+        (tables (now (values .entry)) (now (picks .entry)) (now (remembered .entry)) (now (walk .entry))))
+        (tables (now (values .entry)) (now (picks .entry)) (now (remembered .entry)) (now (walk .entry)))
+        (tables (now (values .exit)) (now (picks .exit)) (now (remembered .exit)) (now (walk .exit)))
+        (now (answer .entry)) (now (answer .exit)) r ⌝ }
+{
+    if answer.len() < 3 {
+        return 4;
+    }
+    let said = solving::solve::solve(file, budget, values, picks, remembered, walk);
+    match said {
+        SolveAnswer::Solved {
+            rounds,
+            evaluations,
+            least,
+        } => {
+            put3(answer, rounds, evaluations, least as u64);
+            1
+        }
+        SolveAnswer::Spent {
+            rounds,
+            evaluations,
+        } => {
+            put3(answer, rounds, evaluations, 0);
+            2
+        }
+        SolveAnswer::Refused { question, place } => {
+            put3(answer, question as u64, place as u64, 0);
+            0
+        }
+    }
+}
+
+// Writes three signed numbers to the front of a table that has room for them.
+fn put3_signed(answer: &mut [i64], a: i64, b: i64, c: i64)
+    requires { ⌜ 3 ≤ length (now answer) ⌝ }
+    ensures { λ _. ⌜ now (answer .exit) ≡ three a b c (now (answer .entry)) ⌝ }
+{
+    answer[0] = a;
+    answer[1] = b;
+    answer[2] = c;
+}
+
+// 3 accepted, with answer C, 0, 0; 0 refused, with question, place, excess; 4 where `answer` has fewer than 3 entries, and then nothing
+// is written.
+#[no_mangle]
+pub extern "C" fn cuulipso_audit(
+    file: &[u8],
+    values: &[u32],
+    picks: &[u16],
+    answer: &mut [i64],
+) -> u8
+    ensures { λ r.
+        ⌜ Written
+        (auditNumbers (audit (now (file .entry)) (now (values .entry)) (now (picks .entry))))
+        (now (answer .entry)) (now (answer .exit)) r ⌝ }
+{
+    if answer.len() < 3 {
+        return 4;
+    }
+    let said = auditing::audit(file, values, picks);
+    match said {
+        AuditAnswer::Accepted { least } => {
+            put3_signed(answer, least as i64, 0, 0);
+            3
+        }
+        AuditAnswer::Refused {
+            question,
+            place,
+            excess,
+        } => {
+            put3_signed(answer, question as i64, place as i64, excess);
+            0
+        }
+    }
 }

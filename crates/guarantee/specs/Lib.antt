@@ -31,3 +31,4 @@ pub mod Solutions
 pub mod Underway
 pub mod Guarantee
 pub mod Instances
+pub mod Excess

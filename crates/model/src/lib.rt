@@ -29,3 +29,15 @@ pub enum SolveAnswer {
         place: u32,
     },
 }
+
+// The answer of the audit: questions 1 to 11 and 15 to 19, with the excess of a refusal.
+pub enum AuditAnswer {
+    Accepted {
+        least: u32,
+    },
+    Refused {
+        question: u8,
+        place: u32,
+        excess: i64,
+    },
+}

@@ -1,0 +1,80 @@
+-- `undo` stays within the tables and ends: the evaluations that are left fall.
+-- Made by `places make` from answers/scan/undo.ans: edit that file, and not this one.
+use mathlib.Core.Path.{_≡_}
+use Prim.Native.Nat.{_≤_, _-_, _*_, _%_}
+use lib.ListN.{length, length-set}
+use borrow.Author.Needs.{needs}
+use native.Mathlib.Omega.{arith}
+use Rattle.solving.proofs.scan.undo.Statement.{statement}
+use Rattle.solving.proofs.scan.undo.Tie as tie
+
+abbrev Inv-loop : tie.InvT-loop
+Inv-loop remembered₀ log from to count₀ remembered count = (count ≤ to) × (length remembered ≡ length remembered₀)
+
+abbrev μ-loop : tie.MeasureT-loop
+μ-loop remembered₀ log from to count₀ remembered count = count
+
+loop-holds : tie.Need-loop-holds Inv-loop μ-loop
+loop-holds c = search needs
+
+sub-count : tie.Need-sub-count Inv-loop μ-loop
+sub-count c = omega arith
+
+mul-k : tie.Need-mul-k Inv-loop μ-loop
+mul-k c = search needs
+
+add-remembered : tie.Need-add-remembered Inv-loop μ-loop
+add-remembered c = search needs
+
+mul-remembered : tie.Need-mul-remembered Inv-loop μ-loop
+mul-remembered c = search needs
+
+element-copy-out-remembered : tie.Need-element-copy-out-remembered Inv-loop μ-loop
+element-copy-out-remembered c = search needs
+
+mul-remembered-2 : tie.Need-mul-remembered-2 Inv-loop μ-loop
+mul-remembered-2 c = search needs
+
+element-copy-out-remembered-2 : tie.Need-element-copy-out-remembered-2 Inv-loop μ-loop
+element-copy-out-remembered-2 c = search needs
+
+cast-remembered : tie.Need-cast-remembered Inv-loop μ-loop
+cast-remembered c = omega (arith, c .before .before .before .before .pre (2 * ((c .before .before .before .loop .count - 1) % 256)), c .before .before .before .before .good)
+
+mul-remembered-3 : tie.Need-mul-remembered-3 Inv-loop μ-loop
+mul-remembered-3 c = omega (arith, c .before .before .before .before .pre (2 * ((c .before .before .before .loop .count - 1) % 256)), c .before .before .before .before .good)
+
+slice-write-remembered : tie.Need-slice-write-remembered Inv-loop μ-loop
+slice-write-remembered c = omega (arith, c .before .before .before .before .pre (2 * ((c .before .before .before .loop .count - 1) % 256)), c .before .before .before .loop .inv .1)
+
+loop-less : tie.Need-loop-less Inv-loop μ-loop
+loop-less c = omega arith
+
+loop-again : tie.Need-loop-again Inv-loop μ-loop
+loop-again c = (omega arith, simp length-set (c .before .before .before .loop .inv .1))
+
+same-length : tie.Need-same-length Inv-loop μ-loop
+same-length c = c .before .loop .inv .1
+
+returns : tie.Need-returns Inv-loop μ-loop
+returns c = search needs
+
+pub undo-spec : {M : Type 1} → statement M
+undo-spec =
+    tie.close
+    (tie.spec Inv-loop μ-loop
+    loop-holds
+    sub-count
+    mul-k
+    add-remembered
+    mul-remembered
+    element-copy-out-remembered
+    mul-remembered-2
+    element-copy-out-remembered-2
+    cast-remembered
+    mul-remembered-3
+    slice-write-remembered
+    loop-less
+    loop-again
+    same-length
+    returns)

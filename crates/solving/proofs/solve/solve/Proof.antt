@@ -1,0 +1,37 @@
+-- `solve` hands over what `solve_file` answers; that the run ends and passes the audit are laws of the solution that it leaves.
+-- Made by `places make` from answers/solve/solve.ans: edit that file, and not this one.
+use Rattle.solving.specs.Promises.{ends-solved, passes-audit}
+use borrow.Author.Needs.{needs}
+use Rattle.solving.proofs.solve.solve.Statement.{statement}
+use Rattle.solving.proofs.solve.solve.Tie as tie
+
+solve-file-requires : tie.Need-solve-file-requires
+solve-file-requires c κs = search needs
+
+same-length : tie.Need-same-length
+same-length c = search needs
+
+same-length-2 : tie.Need-same-length-2
+same-length-2 c = search needs
+
+same-length-3 : tie.Need-same-length-3
+same-length-3 c = search needs
+
+same-length-4 : tie.Need-same-length-4
+same-length-4 c = search needs
+
+returns : tie.Need-returns
+returns c =
+    let h = c .before .before .before .before .before .before .before .before .solve-file .ensures in
+    (h, (ends-solved _ _ _ _ _ h, passes-audit _ _ _ _ _ h))
+
+pub solve-spec : {M : Type 1} → statement M
+solve-spec =
+    tie.close
+    (tie.spec
+    solve-file-requires
+    same-length
+    same-length-2
+    same-length-3
+    same-length-4
+    returns)

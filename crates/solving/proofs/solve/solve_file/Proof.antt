@@ -1,0 +1,86 @@
+-- `solve` puts questions 1 to 13 in order, and solves where they all say yes. A no leaves the tables as they were lent.
+-- Made by `places make` from answers/solve/solve_file.ans: edit that file, and not this one.
+use Prim.Native.Nat.{ℕ}
+use mathlib.Core.Path.{_∙_, sym, ap}
+use lib.ListN.{length-replicate}
+use Rattle.model.specs.Answers.{verdictOf}
+use Rattle.solving.specs.Finishing.{layout-passes, file-refused, tables-refused, tests-are}
+use borrow.Author.Needs.{needs}
+use Rattle.solving.proofs.solve.solve_file.Statement.{statement}
+use Rattle.solving.proofs.solve.solve_file.Tie as tie
+
+questions-requires : tie.Need-questions-requires
+questions-requires c κs = length-replicate {A = ℕ} 9219 0
+
+enum-known-about-file : tie.Need-enum-known-about-file
+enum-known-about-file c = search needs
+
+returns : tie.Need-returns
+returns c = file-refused _ _ _ _ _ (sym (ap verdictOf (c .before .about-file .given .1)) ∙ (c .before .before .before .questions .ensures .verdict))
+
+enum-told : tie.Need-enum-told
+enum-told c = search needs
+
+layout-of-requires : tie.Need-layout-of-requires
+layout-of-requires c κs = layout-passes _ (sym (c .before .before .questions .ensures .verdict) ∙ ap verdictOf (c .enum-told .given .1))
+
+solve-questions-requires : tie.Need-solve-questions-requires
+solve-questions-requires c κs = search needs
+
+enum-known-about-tables : tie.Need-enum-known-about-tables
+enum-known-about-tables c = search needs
+
+returns-2 : tie.Need-returns-2
+returns-2 c =
+    tables-refused _ _ _ _ _
+    (sym (ap verdictOf (c .before .before .before .before .before .enum-told .given .1)) ∙ (c .before .before .before .before .before .before .before .questions .ensures .verdict))
+    (sym (ap verdictOf (c .before .about-tables .given .1))
+    ∙ (c .before .before .before .solve-questions .ensures ∙ tests-are _ _ _ _ _ _ _ _ _ _ _ _ (c .before .before .before .before .layout-of .ensures)))
+
+enum-told-2 : tie.Need-enum-told-2
+enum-told-2 c = search needs
+
+solve-ready-requires : tie.Need-solve-ready-requires
+solve-ready-requires c κs =
+    record {
+      file-passes = sym (c .before .before .before .before .before .before .before .before .before .before .before .questions .ensures .verdict) ∙ ap verdictOf (c .before .before .before .before .before .before .before .before .before .enum-told .given .1);
+      tables-pass =
+          sym (c .before .before .before .before .before .before .before .solve-questions .ensures ∙ tests-are _ _ _ _ _ _ _ _ _ _ _ _ (c .before .before .before .before .before .before .before .before .layout-of .ensures))
+          ∙ ap verdictOf (c .before .before .before .before .before .enum-told2 .given .1);
+      ready = c .before .before .before .before .before .before .before .before .before .before .before .questions .ensures .ready (ap verdictOf (c .before .before .before .before .before .before .before .before .before .enum-told .given .1));
+    }
+
+same-length : tie.Need-same-length
+same-length c = c .before .before .before .before .before .before .before .before .solve-ready .kept .1 .1 .1 .0
+
+same-length-2 : tie.Need-same-length-2
+same-length-2 c = c .before .before .before .before .before .before .before .before .solve-ready .kept .1 .1 .1 .1 .0
+
+same-length-3 : tie.Need-same-length-3
+same-length-3 c = c .before .before .before .before .before .before .before .before .solve-ready .kept .1 .1 .1 .1 .1 .0
+
+same-length-4 : tie.Need-same-length-4
+same-length-4 c = c .before .before .before .before .before .before .before .before .solve-ready .kept .1 .1 .1 .1 .1 .1 .0
+
+returns-3 : tie.Need-returns-3
+returns-3 c = c .before .before .before .before .before .before .before .before .solve-ready .ensures
+
+pub solve-file-spec : {M : Type 1} → statement M
+solve-file-spec =
+    tie.close
+    (tie.spec
+    questions-requires
+    enum-known-about-file
+    returns
+    enum-told
+    layout-of-requires
+    solve-questions-requires
+    enum-known-about-tables
+    returns-2
+    enum-told-2
+    solve-ready-requires
+    same-length
+    same-length-2
+    same-length-3
+    same-length-4
+    returns-3)
