@@ -1,7 +1,7 @@
 -- Laws of the outcomes read off a part of the file: the next outcome, what a loop over them has left, and parts of a file.
 -- By opening the definition once; the rest cites the one step.
 use mathlib.Core.Path.{_≡_, refl}
-use Prim.Native.Nat.{ℕ, zero, suc, _+_, _-_, _*_, _/_, _≤_, _<_}
+use Prim.Native.Nat.{ℕ, zero, suc, _+_, _-_, _*_, _≤_, _<_}
 use native.Mathlib.Nat.{eq-or-lt-of-le}
 use native.Mathlib.Omega.{arith}
 use native.Mathlib.Numerals.{add-one}
@@ -9,7 +9,7 @@ use mathlib.Core.Bool.{Bool, true, false, _&&_}
 use mathlib.Core.List.{List, [], _∷_}
 use mathlib.Core.Logic.{_⊎_, inl, inr}
 use lib.Dec.{ltb}
-use lib.ListN.{length, take, drop, length-take, length-drop}
+use lib.ListN.{take}
 use lib.Seq.{getD-take}
 use borrow.Author.Tests.{ltb-true}
 use Rattle.model.specs.Bytes.{u16At}
@@ -73,15 +73,6 @@ outcomes-front b m i (suc k) h =
       getD-take m b (4 * i + 2 + 1) 0 (omega arith),
       outcomes-front b m (suc i) k (omega arith),
     )
-
--- the outcomes of the part of a file from one byte to another
-pub outcomes-part
-    : (f : List ℕ) (from to k : ℕ) → to ≡ from + 4 * k → to ≤ length f
-    → outcomesFrom (take (to - from) (drop from f)) 0 (length (take (to - from) (drop from f)) / 4) ≡ outcomesFrom (drop from f) 0 k
-outcomes-part f from to k e h =
-    let m : to - from ≡ 4 * k = omega arith in
-    let n : length (take (4 * k) (drop from f)) / 4 ≡ k = simp (length-take, length-drop) (omega arith) in
-    rw (m, n) (outcomes-front (drop from f) (4 * k) 0 k (omega arith))
 
 -- outcomes that obey lead to states
 pub obey-successor

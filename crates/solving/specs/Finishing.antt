@@ -5,64 +5,33 @@ use Prim.Native.Nat.{ℕ, _+_, _*_, _≤_, _<_}
 use native.Mathlib.Omega.{arith}
 use mathlib.Core.Bool.{Bool, true, false, not}
 use mathlib.Core.List.{List, []}
-use lib.Dec.{leb, eqb}
+use lib.Dec.{eqb}
 use lib.ListN.{getD, length, take}
-use borrow.Author.Tests.{leb-true, ne-eqb}
+use borrow.Author.Tests.{ne-eqb}
 use Rattle.model.specs.Bytes.{u32At}
-use Rattle.model.specs.Limits.{noPick, maxPenalty, maxBudget}
+use Rattle.model.specs.Limits.{noPick, maxPenalty}
 use Rattle.model.specs.Problem.{Problem, giveUpCost}
-use Rattle.model.specs.Questions.{Verdict, passes, fails, _then_, ask, layoutQuestions, fileQuestions}
+use Rattle.model.specs.Questions.{passes, fails, layoutQuestions, fileQuestions}
 use Rattle.model.specs.Sections.{problemOf}
 use Rattle.model.specs.Value.{rowValue, entry}
 use Rattle.model.specs.Walk.{Reached, walk}
 use Rattle.model.specs.Rounds.{Machine, runFrom, runOf, fillTo, machineStart, listTable}
-use Rattle.model.specs.Solution.{Answer, refused, Tables, fine, solutionOf, solutionOn, solveQuestions, solution}
+use Rattle.model.specs.Solution.{Answer, refused, Tables, fine, solutionOf, solveQuestions, solution}
 use Rattle.guarantee.specs.Formed.{WellFormed}
 use Rattle.guarantee.specs.WellFormed.{well-formed}
-use Rattle.guarantee.specs.Searches.{then-first, then-next, then-both, ask-yes}
+use Rattle.guarantee.specs.Searches.{then-first}
 use Rattle.guarantee.specs.Values.{rowValue-same-states}
 use Rattle.guarantee.specs.Tables.{fill-length, fill-entry}
 use Rattle.guarantee.specs.Walks.{reached-state, reached-marked}
-use Rattle.guarantee.specs.Sound.{Sound, start-sound, evaluation-fits}
+use Rattle.guarantee.specs.Sound.{Sound, evaluation-fits}
 use Rattle.guarantee.specs.Solved.{Final, solved-final}
-use Rattle.guarantee.specs.Checks.{checked-run}
+use Rattle.guarantee.specs.Solutions.{Lent, questions, lent-long, lent-sound, solution-run, solution-refused}
 use Rattle.reading.specs.Laid.{LaidOut, Set}
 use Rattle.reading.specs.Ready.{Ready}
 use Rattle.walking.specs.Trails.{Walkable}
 use Rattle.solving.specs.Asked.{machine, ending, Scannable, Runnable, Ran}
 use Rattle.solving.specs.Solving.{solveTests, tables, answered, PicksFit, Solvable, Leaves}
 use Rattle.solving.specs.Filling.{fill-same, list-table-same}
-
--- what questions 12 and 13 give
-pub record Lent (p : Problem) (budget : ℕ) (t : Tables) : Type 0 where
-  pub values-long : p .states ≤ length (t .values)
-  pub picks-long : p .states ≤ length (t .picks)
-  pub remembered-long : p .rows ≤ length (t .remembered)
-  pub list-long : p .states ≤ length (t .walk-list)
-  pub budget-low : budget ≤ maxBudget
-
-asked : (q i a b : ℕ) (rest : Verdict) → (ask q i (leb a b) then rest) ≡ passes → (a ≤ b) × (rest ≡ passes)
-asked q i a b rest h =
-    (leb-true a b (ask-yes q i (leb a b) (then-first (ask q i (leb a b)) rest h)), then-next (ask q i (leb a b)) rest h)
-
-pub lent : (p : Problem) (budget : ℕ) (t : Tables) → solveQuestions p budget t ≡ passes → Lent p budget t
-unfolding solveQuestions
-lent p budget t h =
-    let rest4 : Verdict = ask 13 0 (leb budget maxBudget) in
-    let rest3 : Verdict = ask 12 3 (leb (p .states) (length (t .walk-list))) then rest4 in
-    let rest2 : Verdict = ask 12 2 (leb (p .rows) (length (t .remembered))) then rest3 in
-    let rest1 : Verdict = ask 12 1 (leb (p .states) (length (t .picks))) then rest2 in
-    let h0 = asked 12 0 (p .states) (length (t .values)) rest1 h in
-    let h1 = asked 12 1 (p .states) (length (t .picks)) rest2 (h0 .1) in
-    let h2 = asked 12 2 (p .rows) (length (t .remembered)) rest3 (h1 .1) in
-    let h3 = asked 12 3 (p .states) (length (t .walk-list)) rest4 (h2 .1) in
-    record {
-      values-long = h0 .0;
-      picks-long = h1 .0;
-      remembered-long = h2 .0;
-      list-long = h3 .0;
-      budget-low = leb-true budget maxBudget (ask-yes 13 0 (leb budget maxBudget) (h3 .1));
-    }
 
 pub layout-passes : (f : List ℕ) → fileQuestions f ≡ passes → layoutQuestions f ≡ passes
 unfolding fileQuestions
@@ -118,10 +87,10 @@ module _ (f index : List ℕ) (budget : ℕ) (t : Tables) (h : Solvable f index 
   formed = well-formed f (h .file-passes)
 
   pub long : Lent p budget t
-  long = lent p budget t (h .tables-pass)
+  long = lent-long p budget t (h .tables-pass)
 
   pub start-is-sound : Sound p started
-  start-is-sound = start-sound p formed _ _ _ (long .values-long) (long .picks-long) (long .remembered-long)
+  start-is-sound = lent-sound f budget t (h .file-passes) (h .tables-pass)
 
   module _ (values′ : List ℕ) (filled : values′ ≡ fillTo (p .estimate) (t .values) (p .states)) where
     values-start : values′ ≡ started .values
@@ -188,13 +157,9 @@ module _ (f index : List ℕ) (budget : ℕ) (t : Tables) (h : Solvable f index 
                 solved-final p formed (t .values) (t .picks) (t .remembered) (long .values-long) (long .picks-long)
                 (long .remembered-long) budget rounds last (run-is ∙ rw done refl)
 
-        pub solution-is
-            : solution f budget t ≡ solutionOf p (t .walk-list) (fine (ending solved rounds last))
-        unfolding solution solutionOn
+        solution-is : solution f budget t ≡ solutionOf p (t .walk-list) (fine (ending solved rounds last))
         solution-is =
-            rw (then-both (h .file-passes) (h .tables-pass))
-            (rw (checked-run p formed (p .tolerance) budget true 0 started start-is-sound)
-            (rw run-is refl))
+            solution-run f budget t (h .file-passes) (h .tables-pass) ∙ ap (λ r. solutionOf p (t .walk-list) (fine r)) run-is
 
         pub run-leaves
             : (a : Answer) (list‴ : List ℕ) → list‴ ≡ listTable (p .states) (take listed list″) list″
@@ -213,11 +178,9 @@ module _ (f index : List ℕ) (budget : ℕ) (t : Tables) (h : Solvable f index 
             go false q c = record { answer = c; left = rw same-list refl }
 
 -- a no to questions 1 to 13: "no table has changed"
-pub refusal-leaves
-    : (f : List ℕ) (budget : ℕ) (t : Tables) (q i : ℕ) → (fileQuestions f then solveQuestions (problemOf f) budget t) ≡ fails q i
-    → Leaves (refused q i) t (solution f budget t)
-unfolding solution solutionOn
-refusal-leaves f budget t q i h = rw h (record { answer = refl; left = refl })
+refusal-leaves
+    : (f : List ℕ) (budget : ℕ) (t : Tables) (q i : ℕ) → questions f budget t ≡ fails q i → Leaves (refused q i) t (solution f budget t)
+refusal-leaves f budget t q i h = rw (solution-refused f budget t q i h) (record { answer = refl; left = refl })
 
 pub file-refused
     : (f : List ℕ) (budget : ℕ) (t : Tables) (q i : ℕ) → fails q i ≡ fileQuestions f → Leaves (refused q i) t (solution f budget t)
