@@ -7,7 +7,8 @@ use native.Mathlib.Numerals.{add-one}
 use native.Mathlib.Omega.{arith}
 use mathlib.Core.Bool.{Bool, true, false}
 use mathlib.Core.List.{List}
-use lib.Dec.{eqb}
+use borrow.Author.Tests.{le-ltb}
+use lib.Dec.{eqb, ltb}
 use lib.ListN.{length, getD, take, drop, length-drop}
 use lib.Seq.{getD-take, length-take-le}
 use Rattle.model.specs.Bytes.{u16At}
@@ -100,6 +101,10 @@ module _ (f index : List ℕ) (entries r : ℕ) (h : RowReady f index entries r)
       ≡ rowValue (problemOf f) v r
   unfolding rowValue
   row-value-is v = rw (part-holds, h .ready .ticks r (h .row-there))
+
+  -- a row's value is at least its cost
+  pub cost-passes : (v : ℕ → ℕ) (x : ℕ) → x ≤ getD index (rowsBase + 2 * r + 1) 0 → ltb (rowValue (problemOf f) v r) x ≡ false
+  cost-passes v x l = le-ltb (rowValue (problemOf f) v r) x (omega (arith, row-value-is v))
 
 -- the rows of a state, as the index has them
 module _ (f index : List ℕ) (h : Ready f index) (s : ℕ) (l : s < problemOf f .states) where

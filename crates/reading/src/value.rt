@@ -5,6 +5,7 @@ use crate::numbers::u16_at;
 use crate::numbers::u32_at;
 ghost use mathlib.Core.Path.{_≡_};
 ghost use Prim.Native.Nat.{ℕ, _+_, _*_, _/_, _≤_, _<_};
+ghost use lib.Dec.{ltb};
 ghost use lib.ListN.{length};
 ghost use Rattle.model.specs.Bytes.{u32At};
 ghost use Rattle.model.specs.Rounds.{fillTo};
@@ -47,6 +48,18 @@ pub fn row_value(file: &[u8], index: &[u32; INDEX], values: &[u32], r: usize) ->
     cost + average(weighted_sum(&file[from..to], values))
 }
 
+// Whether the value of row r lies below `value`. It is at least the row's cost, so no sum is needed where `value` is at most that.
+fn undercuts(file: &[u8], index: &[u32; INDEX], values: &[u32], value: u64, r: usize) -> bool
+    requires { ⌜ RowReady (now file) (now index) (length (now values)) r ⌝ }
+    ensures { λ q. ⌜ q ≡ ltb (rowValue (problemOf (now (file .entry))) (entry (now (values .entry))) r) value ⌝ }
+{
+    let cost = index[ROWS + 2 * r + 1] as u64;
+    if value <= cost {
+        return false;
+    }
+    row_value(file, index, values, r) < value
+}
+
 // The first state with a row whose value lies below the state's, and its first such row.
 pub struct Undercut {
     pub state: usize,
@@ -65,7 +78,7 @@ pub fn first_undercut(file: &[u8], index: &[u32; INDEX], values: &[u32], n: usiz
         let end = index[s + 1] as usize;
         let mut r = index[s] as usize;
         while r < end {
-            if row_value(file, index, values, r) < value {
+            if undercuts(file, index, values, value, r) {
                 found = r;
                 break 'states;
             }

@@ -8,7 +8,7 @@ use Rattle.model.specs.Limits.{maxRows, valueBound}
 use Rattle.model.specs.Problem.{Problem}
 use Rattle.model.specs.Sections.{problemOf}
 use Rattle.model.specs.Value.{rowValue, entry}
-use Rattle.model.specs.Walk.{In}
+use Rattle.model.specs.Walk.{In, walk}
 use Rattle.model.specs.Rounds.{Found, Machine, Ending, solved, spent, scanFrom, backups, round, runFrom}
 use Rattle.guarantee.specs.Formed.{WellFormed}
 use Rattle.guarantee.specs.Sound.{Sound}
@@ -87,22 +87,25 @@ pub record Runnable (f index values picks remembered list : List ℕ) : Type 0 w
   pub sound : SoundTables (problemOf f) values picks remembered
   pub list-long : problemOf f .states ≤ length list
 
--- a round done: the tables, the first `listed` entries of the walk list and the counts are those of the model's round
+-- a round done: the tables, the first `listed` entries of the walk list and the counts are those of the model's round, and the
+-- marks those of its walk
 pub record Rounded
-    (p : Problem) (e : ℕ) (values picks remembered list : List ℕ) (count : ℕ) (values′ picks′ remembered′ list′ : List ℕ)
+    (p : Problem) (e : ℕ) (values picks remembered list : List ℕ) (count : ℕ) (values′ picks′ remembered′ list′ marks′ : List ℕ)
     (count′ : ℕ) (moved′ : Bool) (listed : ℕ) (over : Bool) : Type 0 where
+  pub marks : marks′ ≡ walk p (entry picks) .marks
   pub same : (l : List ℕ) (b : Bool)
       → machine values′ picks′ remembered′ (take listed list′) count′ moved′ ≡ round p e (machine values picks remembered l count b)
   pub few : listed ≤ p .states
   pub beyond : drop (p .states) list′ ≡ drop (p .states) list
   pub fine : over ≡ false
 
--- a run done: how it ended is how the model's run ends
+-- a run done: how it ended is how the model's run ends; where it is solved the marks are those of a walk with the picks as they are left
 pub record Ran
-    (p : Problem) (e budget : ℕ) (values picks remembered list : List ℕ) (values′ picks′ remembered′ list′ : List ℕ)
+    (p : Problem) (e budget : ℕ) (values picks remembered list : List ℕ) (values′ picks′ remembered′ list′ marks′ : List ℕ)
     (rounds evaluations listed : ℕ) (solved over : Bool) : Type 0 where
   pub ends : runFrom p e budget true 0 (machine values picks remembered [] 0 true)
       ≡ ending solved rounds (machine values′ picks′ remembered′ (take listed list′) evaluations (not solved))
+  pub marks : solved ≡ true → marks′ ≡ walk p (entry picks′) .marks
   pub few : listed ≤ p .states
   pub beyond : drop (p .states) list′ ≡ drop (p .states) list
   pub fine : over ≡ false

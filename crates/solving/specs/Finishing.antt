@@ -130,9 +130,10 @@ module _ (f index : List ℕ) (budget : ℕ) (t : Tables) (h : Solvable f index 
           }
 
       -- the run's end
-      module _ (e : ℕ) (tolerance : e ≡ p .tolerance) (values″ picks″ remembered″ list″ : List ℕ) (rounds evaluations listed : ℕ)
+      module _ (e : ℕ) (tolerance : e ≡ p .tolerance) (values″ picks″ remembered″ list″ marks″ : List ℕ) (rounds evaluations listed : ℕ)
           (solved over : Bool)
-          (ran : Ran p e budget values′ picks′ remembered′ (t .walk-list) values″ picks″ remembered″ list″ rounds evaluations listed solved over) where
+          (ran : Ran p e budget values′ picks′ remembered′ (t .walk-list) values″ picks″ remembered″ list″ marks″
+          rounds evaluations listed solved over) where
         abbrev last : Machine
         last = machine values″ picks″ remembered″ (take listed list″) evaluations (not solved)
 
@@ -141,10 +142,11 @@ module _ (f index : List ℕ) (budget : ℕ) (t : Tables) (h : Solvable f index 
             ap (λ m. runFrom p (p .tolerance) budget true 0 m) (sym begun)
             ∙ (ap (λ x. runFrom p x budget true 0 (machine values′ picks′ remembered′ [] 0 true)) (sym tolerance) ∙ ran .ends)
 
-        -- where the run is solved, each reached pick fits
-        pub picks-fit : solved ≡ true → PicksFit p picks″
+        -- where the run is solved, the marks are those of a walk, and each reached pick fits
+        pub picks-fit : solved ≡ true → PicksFit p picks″ marks″
         picks-fit done =
             record {
+              walked = ran .marks done;
               long = final .sound .picks-length;
               fits =
                   λ s r o.

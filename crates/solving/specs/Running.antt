@@ -17,6 +17,7 @@ use Rattle.model.specs.Rounds.{Machine, backups, round, Ending, runFrom}
 use Rattle.guarantee.specs.Sound.{Sound}
 use Rattle.guarantee.specs.Backups.{walk-opens, round-sound, run-stops}
 use Rattle.guarantee.specs.Evaluations.{round-count}
+use Rattle.guarantee.specs.Solved.{round-still}
 use Rattle.walking.specs.Trails.{Walked}
 use Rattle.solving.specs.Asked.{countBound, machine, ending, Backable, Listed, Runnable, Rounded, RunLeft}
 use Rattle.solving.specs.Backing.{tables-sound, sound-tables}
@@ -57,9 +58,10 @@ module _ (f index values picks remembered list : List ℕ) (h : Runnable f index
         → machine values′ picks′ remembered′ (take r list′) count′ moved′
         ≡ backups (problemOf f) e (take r list′) (machine values picks remembered (take r list′) count false)
         → over ≡ false
-        → Rounded (problemOf f) e values picks remembered list count values′ picks′ remembered′ list′ count′ moved′ r over
+        → Rounded (problemOf f) e values picks remembered list count values′ picks′ remembered′ list′ marks′ count′ moved′ r over
     round-done e count values′ picks′ remembered′ count′ moved′ over done fine =
         record {
+          marks = w .marks;
           same = λ l b. done ∙ round-left e count l b;
           few = w .few;
           beyond = later-beyond r (problemOf f .states) list list′ (w .few) (w .rest);
@@ -94,8 +96,8 @@ module _ (f index : List ℕ) (e budget : ℕ) (w : Ending) (list₀ values pick
         round-count (problemOf f) e (h .runnable .walkable .formed) (machine values picks remembered [] count true),
       )
 
-  module _ (values′ picks′ remembered′ list′ : List ℕ) (count′ : ℕ) (moved′ over : Bool) (listed′ : ℕ)
-      (r : Rounded (problemOf f) e values picks remembered list count values′ picks′ remembered′ list′ count′ moved′ listed′ over)
+  module _ (values′ picks′ remembered′ list′ marks′ : List ℕ) (count′ : ℕ) (moved′ over : Bool) (listed′ : ℕ)
+      (r : Rounded (problemOf f) e values picks remembered list count values′ picks′ remembered′ list′ marks′ count′ moved′ listed′ over)
       (l : rounds < budget) where
     abbrev before : Machine
     before = machine values picks remembered (take listed list) count true
@@ -148,6 +150,14 @@ module _ (f index : List ℕ) (e budget : ℕ) (w : Ending) (list₀ values pick
     pub run-solved : moved′ ≡ false → w ≡ ending true (rounds + 1) (machine values′ picks′ remembered′ (take listed′ list′) count′ false)
     run-solved still =
         sym (rw still at went-on) ∙ run-stops (problemOf f) e (budget - (rounds + 1)) (rounds + 1) _
+
+    -- a quiet round leaves the picks, so its walk is the walk with the picks as they are left
+    pub run-marks : moved′ ≡ false → marks′ ≡ walk (problemOf f) (entry picks′) .marks
+    run-marks still =
+        let quiet : round (problemOf f) e before .moved ≡ false = ap (λ (x : Machine). x .moved) (sym done) ∙ still in
+        let sound = sound-tables (problemOf f) before (h .runnable .sound) in
+        let kept = round-still (problemOf f) (h .runnable .walkable .formed) e before sound quiet .picks in
+        rw (ap (λ (x : Machine). x .picks) done ∙ kept) (r .marks)
 
   pub run-spent : budget ≤ rounds → w ≡ ending false rounds (machine values picks remembered (take listed list) count true)
   unfolding runFrom

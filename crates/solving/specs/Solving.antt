@@ -12,7 +12,7 @@ use Rattle.model.specs.Questions.{Verdict, passes, _then_, ask, fileQuestions}
 use Rattle.model.specs.Sections.{problemOf}
 use Rattle.model.specs.Solution.{Answer, solved, spent, Tables, Solution, solveQuestions}
 use Rattle.model.specs.Value.{entry}
-use Rattle.model.specs.Walk.{Reached, leastCost}
+use Rattle.model.specs.Walk.{Reached, walk, leastCost}
 use Rattle.reading.specs.Ready.{Ready}
 
 -- questions 12 and 13 about the tables' lengths and the budget
@@ -33,8 +33,9 @@ abbrev pub answered : Bool → Problem → ℕ → ℕ → List ℕ → Answer
 answered true p rounds evaluations picks = solved rounds evaluations (leastCost p (entry picks))
 answered false p rounds evaluations picks = spent rounds evaluations
 
--- each reached state that is no goal gives up or picks a row of its own
-pub record PicksFit (p : Problem) (picks : List ℕ) : Type 0 where
+-- the marks are those of a walk, and each reached state that is no goal gives up or picks a row of its own
+pub record PicksFit (p : Problem) (picks marks : List ℕ) : Type 0 where
+  pub walked : marks ≡ walk p (entry picks) .marks
   pub long : p .states ≤ length picks
   pub fits : (s : ℕ) → Reached p (entry picks) s → p .goal s ≡ false → (getD picks s 0 ≡ giveUp) ⊎ (ownRow p s (getD picks s 0) ≡ true)
 

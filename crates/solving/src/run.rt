@@ -24,7 +24,8 @@ pub struct RoundDone {
     pub listed: usize,
 }
 
-// One round: walk with the picks as they are, then back up the listed states. `count` evaluations were made before.
+// One round: walk with the picks as they are, then back up the listed states. `count` evaluations were made before. The marks are
+// left as the walk makes them.
 pub fn round(
     file: &[u8],
     index: &[u32; INDEX],
@@ -46,8 +47,8 @@ pub fn round(
         ⌜ Rounded
         (problemOf (now (file .entry))) tolerance
         (now (values .entry)) (now (picks .entry)) (now (remembered .entry)) (now (list .entry)) count
-        (now (values .exit)) (now (picks .exit)) (now (remembered .exit)) (now (list .exit)) (r .count) (r .moved) (r .listed)
-        (r .over) ⌝ }
+        (now (values .exit)) (now (picks .exit)) (now (remembered .exit)) (now (list .exit)) (now (marks .exit))
+        (r .count) (r .moved) (r .listed) (r .over) ⌝ }
 {
     let listed = walk(file, index, picks, marks, list);
     let t = Tally {
@@ -89,7 +90,7 @@ pub struct Ended {
     pub row: u32,
 }
 
-// Runs at most `budget` rounds.
+// Runs at most `budget` rounds. Where the run is solved the marks are left as a walk with the last picks makes them.
 pub fn run(
     file: &[u8],
     index: &[u32; INDEX],
@@ -97,6 +98,7 @@ pub fn run(
     picks: &mut [u16],
     remembered: &mut [u32],
     list: &mut [u16],
+    marks: &mut [u8; MARKS],
     tolerance: u32,
     give: u32,
     budget: u64,
@@ -107,11 +109,10 @@ pub fn run(
         ⌜ Ran
         (problemOf (now (file .entry))) tolerance budget
         (now (values .entry)) (now (picks .entry)) (now (remembered .entry)) (now (list .entry))
-        (now (values .exit)) (now (picks .exit)) (now (remembered .exit)) (now (list .exit))
+        (now (values .exit)) (now (picks .exit)) (now (remembered .exit)) (now (list .exit)) (now (marks .exit))
         (r .rounds) (r .evaluations) (r .listed) (r .solved) (r .over) ⌝ }
 {
     let mut log = [0u32; LOG];
-    let mut marks = [0u8; MARKS];
     let mut rounds: u64 = 0;
     let mut count: u64 = 0;
     let mut listed: usize = 0;
@@ -124,7 +125,7 @@ pub fn run(
             remembered,
             list,
             &mut log,
-            &mut marks,
+            marks,
             tolerance,
             give,
             count,

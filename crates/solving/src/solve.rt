@@ -14,38 +14,26 @@ use reading::questions::questions;
 use reading::value::estimates;
 use walking::least::least_cost;
 use walking::walk::MARKS;
-use walking::walk::walk;
 ghost use mathlib.Core.Path.{_≡_};
 ghost use mathlib.Core.Bool.{true, false};
 ghost use Rattle.model.specs.Answers.{answerOf};
 ghost use Rattle.model.specs.Sections.{problemOf};
 ghost use Rattle.model.specs.Solution.{solution};
 ghost use Rattle.model.specs.Value.{entry};
-ghost use Rattle.model.specs.Walk.{leastCost};
 ghost use Rattle.walking.specs.Trails.{Walkable};
 ghost use Rattle.solving.specs.Promises.{EndsSolved, PassesAudit};
 ghost use Rattle.solving.specs.Solving.{PicksFit, answered, tables, Solvable, Leaves};
 
-// C: the least cost of a pick at a reached state that is no goal, found by one more walk.
-fn least(file: &[u8], index: &[u32; INDEX], picks: &[u16], states: usize) -> u32
-    requires { ⌜ Walkable (now file) (now index) × PicksFit (problemOf (now file)) (now picks) × (states ≡ problemOf (now file) .states) ⌝ }
-    ensures { λ r. ⌜ r ≡ leastCost (problemOf (now (file .entry))) (entry (now (picks .entry))) ⌝ }
-{
-    let mut marks = [0u8; MARKS];
-    let mut list = [0u16; MARKS];
-    walk(file, index, picks, &mut marks, &mut list);
-    least_cost(file, index, picks, &marks, states)
-}
-
-// What a run that ended carries.
+// What a run that ended carries. Where it is solved, `marks` are those of a walk with the picks.
 fn answer(
     file: &[u8],
     index: &[u32; INDEX],
     picks: &[u16],
+    marks: &[u8; MARKS],
     states: usize,
     end: Ended,
 ) -> SolveAnswer
-    requires { ⌜ Walkable (now file) (now index) × (end .solved ≡ true → PicksFit (problemOf (now file)) (now picks))
+    requires { ⌜ Walkable (now file) (now index) × (end .solved ≡ true → PicksFit (problemOf (now file)) (now picks) (now marks))
         × (states ≡ problemOf (now file) .states) × (end .over ≡ false) ⌝ }
     ensures { λ r.
         ⌜ answerOf r ≡ answered (end .solved) (problemOf (now (file .entry))) (end .rounds) (end .evaluations) (now (picks .entry)) ⌝ }
@@ -64,7 +52,7 @@ fn answer(
             evaluations,
         };
     }
-    let least = least(file, index, picks, states);
+    let least = least_cost(file, index, picks, marks, states);
     SolveAnswer::Solved {
         rounds,
         evaluations,
@@ -96,6 +84,7 @@ fn solve_ready(
     estimates(file, l.at1, states, values);
     no_picks(picks, states);
     remember(file, index, values, remembered, l.rows);
+    let mut marks = [0u8; MARKS];
     let end = run(
         file,
         index,
@@ -103,12 +92,13 @@ fn solve_ready(
         picks,
         remembered,
         list,
+        &mut marks,
         set.tolerance,
         1000 * set.penalty,
         budget,
     );
     pad(list, end.listed, states);
-    answer(file, index, picks, states, end)
+    answer(file, index, picks, &marks, states, end)
 }
 
 // Questions 1 to 14 about a file, a budget and four lent tables, and the run where they let it be.

@@ -10,17 +10,17 @@ use Rattle.model.specs.Limits.{giveUp}
 use Rattle.model.specs.Problem.{ownRow}
 use Rattle.model.specs.Sections.{problemOf}
 use Rattle.model.specs.Value.{entry}
-use Rattle.model.specs.Walk.{Reached, at-start, leastTo, leastCost}
+use Rattle.model.specs.Walk.{Reached, at-start, walk, leastTo, leastCost}
 use Rattle.guarantee.specs.Walks.{own-row, reached-marked, marked-reached}
-use Rattle.walking.specs.Trails.{Walkable, Walked}
+use Rattle.walking.specs.Trails.{Walkable}
 use Rattle.walking.specs.Costs.{Costed}
 
-module _ (f index picks before marks list : List ℕ) (r : ℕ) (w : Walkable f index) (d : Walked f picks before marks list r) where
+module _ (f index picks marks : List ℕ) (w : Walkable f index) (walked : marks ≡ walk (problemOf f) (entry picks) .marks) where
   pub walked-reached : (s : ℕ) → (getD marks s 0 ≡ 0 → ⊥) → Reached (problemOf f) (entry picks) s
-  walked-reached s h = marked-reached (problemOf f) (w .formed) (entry picks) s (rw (d .marks) at h)
+  walked-reached s h = marked-reached (problemOf f) (w .formed) (entry picks) s (rw walked at h)
 
   pub walked-marked : (s : ℕ) → Reached (problemOf f) (entry picks) s → getD marks s 0 ≡ 1
-  walked-marked s h = rw (d .marks) (reached-marked (problemOf f) (w .formed) (entry picks) s h)
+  walked-marked s h = rw walked (reached-marked (problemOf f) (w .formed) (entry picks) s h)
 
   pub walked-start : getD marks (problemOf f .start) 0 ≡ 1
   walked-start = walked-marked (problemOf f .start) at-start
@@ -41,4 +41,4 @@ module _ (f index picks before marks list : List ℕ) (r : ℕ) (w : Walkable f 
   pub walked-least : (n c : ℕ) → n ≡ problemOf f .states → c ≡ leastTo (problemOf f) (entry picks) marks n
       → c ≡ leastCost (problemOf f) (entry picks)
   unfolding leastCost
-  walked-least n c e h = h ∙ rw (d .marks, e) refl
+  walked-least n c e h = h ∙ rw (walked, e) refl

@@ -4,6 +4,7 @@
 use Prim.Native.Nat.{_≤_, _-_}
 use lib.ListN.{getD}
 use mathlib.Core.Path.{_≡_, _∙_, sym}
+use borrow.Author.Tests.{ltb-true, ltb-false}
 use Rattle.model.specs.Questions.{undercutState, undercutRow}
 use Rattle.model.specs.Search.{first}
 use Rattle.model.specs.Sections.{problemOf}
@@ -76,8 +77,8 @@ loop-holds c =
     let end = rows-end _ _ (c .before .before .before .before .before .before .before .pre .0) (c .before .before .before .before .states .s) (omega arith) in
     (omega arith, c .before .before .before .before .states .inv .1, rows-start _ _ _ _ _ begin end)
 
-row-value-requires : tie.Need-row-value-requires Inv-loop μ-loop Inv-states μ-states
-row-value-requires c κs = row-ready _ _ (c .before .before .before .before .before .before .before .before .before .pre .0) (c .before .before .before .before .before .before .states .s) (omega arith) _ _ (omega arith) (c .loop-test .taken)
+undercuts-requires : tie.Need-undercuts-requires Inv-loop μ-loop Inv-states μ-states
+undercuts-requires c κs = row-ready _ _ (c .before .before .before .before .before .before .before .before .before .pre .0) (c .before .before .before .before .before .before .states .s) (omega arith) _ _ (omega arith) (c .loop-test .taken)
 
 add-r : tie.Need-add-r Inv-loop μ-loop Inv-states μ-states
 add-r c = omega (arith, rows-high _ _ (c .before .before .before .before .before .before .before .before .before .before .before .pre .0) (c .before .before .before .before .before .before .before .before .states .s) (omega arith))
@@ -87,7 +88,7 @@ loop-less c = omega arith
 
 loop-again : tie.Need-loop-again Inv-loop μ-loop Inv-states μ-states
 loop-again c =
-    (omega arith, c .before .before .before .loop .inv .1, c .before .before .before .loop .inv .2 ∙ row-passes _ _ _ _ _ (c .before .before .loop-test .taken) (rw (← (c .before .row-value .ensures)) (c .if1 .left)))
+    (omega arith, c .before .before .before .loop .inv .1, c .before .before .before .loop .inv .2 ∙ row-passes _ _ _ _ _ (c .before .before .loop-test .taken) (ltb-false _ _ (sym (c .before .undercuts .ensures) ∙ (c .if1 .left))))
 
 add-s : tie.Need-add-s Inv-loop μ-loop Inv-states μ-states
 add-s c = omega arith
@@ -111,7 +112,7 @@ returns c =
 
 returns-2 : tie.Need-returns-2 Inv-loop μ-loop Inv-states μ-states
 returns-2 c =
-    let row = c .before .before .before .loop .inv .2 ∙ row-undercuts _ _ _ _ _ (c .before .before .loop-test .taken) (rw (← (c .before .row-value .ensures)) (c .if1 .taken)) in
+    let row = c .before .before .before .loop .inv .2 ∙ row-undercuts _ _ _ _ _ (c .before .before .loop-test .taken) (ltb-true _ _ (sym (c .before .undercuts .ensures) ∙ (c .if1 .taken))) in
     let end = rows-end _ _ (c .before .before .before .before .before .before .before .before .before .before .before .pre .0) (c .before .before .before .before .before .before .before .before .states .s) (omega arith) in
     record {
       state-is = sym (c .before .before .before .before .before .before .before .before .states .inv .2 ∙ state-undercut _ _ _ _ _ _ (c .before .before .before .before .before .before .before .states-test .taken) end row (c .before .before .loop-test .taken));
@@ -135,7 +136,7 @@ first-undercut-spec =
     element-copy-out-r
     cast-r
     loop-holds
-    row-value-requires
+    undercuts-requires
     add-r
     loop-less
     loop-again

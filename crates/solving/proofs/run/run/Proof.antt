@@ -9,15 +9,15 @@ use lib.ListN.{length}
 use Rattle.model.specs.Sections.{problemOf}
 use Rattle.model.specs.Rounds.{runFrom}
 use Rattle.solving.specs.Asked.{machine, RunLeft}
-use Rattle.solving.specs.Running.{run-starts, next-round-room, run-goes-on, run-solved, run-spent}
+use Rattle.solving.specs.Running.{run-starts, next-round-room, run-goes-on, run-solved, run-marks, run-spent}
 use native.Mathlib.Omega.{arith}
 use Rattle.solving.proofs.run.run.Statement.{statement}
 use Rattle.solving.proofs.run.run.Tie as tie
 
 abbrev Inv-loop : tie.InvT-loop
 Inv-loop
-    file index values₀ picks₀ remembered₀ list₀ tolerance give budget log₀ marks₀ rounds₀ count₀ listed₀
-    values picks remembered list log marks rounds count listed =
+    file index values₀ picks₀ remembered₀ list₀ marks₀ tolerance give budget log₀ rounds₀ count₀ listed₀
+    values picks remembered list marks log rounds count listed =
     RunLeft file index tolerance budget
     (runFrom (problemOf file) tolerance budget true 0 (machine values₀ picks₀ remembered₀ [] 0 true))
     list₀ values picks remembered list rounds count listed
@@ -26,8 +26,8 @@ Inv-loop
 
 abbrev μ-loop : tie.MeasureT-loop
 μ-loop
-    file index values₀ picks₀ remembered₀ list₀ tolerance give budget log₀ marks₀ rounds₀ count₀ listed₀
-    values picks remembered list log marks rounds count listed =
+    file index values₀ picks₀ remembered₀ list₀ marks₀ tolerance give budget log₀ rounds₀ count₀ listed₀
+    values picks remembered list marks log rounds count listed =
     budget - rounds
 
 loop-holds : tie.Need-loop-holds Inv-loop μ-loop
@@ -73,7 +73,10 @@ same-length-8 c = c .before .before .before .before .before .before .before .bef
 returns-2 : tie.Need-returns-2 Inv-loop μ-loop
 returns-2 c =
     record {
-      ends = run-solved _ _ _ _ _ _ _ _ _ _ _ _ _ (c .before .before .before .before .before .before .before .before .before .before .before .before .before .before .before .before .before .before .before .loop .inv .0) _ _ _ _ _ _ _ _ (c .before .before .before .before .before .before .before .before .before .before .before .round .ensures) (c .before .before .before .before .before .before .before .before .before .before .before .before .before .before .before .before .before .before .loop-test .taken) (not-true _ (c .if2 .taken));
+      ends = run-solved _ _ _ _ _ _ _ _ _ _ _ _ _ (c .before .before .before .before .before .before .before .before .before .before .before .before .before .before .before .before .before .before .before .loop .inv .0) _ _ _ _ _ _ _ _ _ (c .before .before .before .before .before .before .before .before .before .before .before .round .ensures) (c .before .before .before .before .before .before .before .before .before .before .before .before .before .before .before .before .before .before .loop-test .taken)
+          (not-true _ (c .if2 .taken));
+      marks = λ _. run-marks _ _ _ _ _ _ _ _ _ _ _ _ _ (c .before .before .before .before .before .before .before .before .before .before .before .before .before .before .before .before .before .before .before .loop .inv .0) _ _ _ _ _ _ _ _ _ (c .before .before .before .before .before .before .before .before .before .before .before .round .ensures) (c .before .before .before .before .before .before .before .before .before .before .before .before .before .before .before .before .before .before .loop-test .taken)
+          (not-true _ (c .if2 .taken));
       few = c .before .before .before .before .before .before .before .before .before .before .before .round .ensures .few;
       beyond = c .before .before .before .before .before .before .before .before .before .before .before .round .ensures .beyond ∙ (c .before .before .before .before .before .before .before .before .before .before .before .before .before .before .before .before .before .before .before .loop .inv .0 .beyond);
       fine = refl;
@@ -84,7 +87,7 @@ loop-less c = omega (arith, c .before .before .before .before .before .before .b
 
 loop-again : tie.Need-loop-again Inv-loop μ-loop
 loop-again c = (
-  run-goes-on _ _ _ _ _ _ _ _ _ _ _ _ _ (c .before .before .before .before .before .before .before .before .before .before .before .before .before .before .before .before .before .before .before .loop .inv .0) _ _ _ _ _ _ _ _ (c .before .before .before .before .before .before .before .before .before .before .before .round .ensures) (c .before .before .before .before .before .before .before .before .before .before .before .before .before .before .before .before .before .before .loop-test .taken) (not-false _ (c .if2 .left))
+  run-goes-on _ _ _ _ _ _ _ _ _ _ _ _ _ (c .before .before .before .before .before .before .before .before .before .before .before .before .before .before .before .before .before .before .before .loop .inv .0) _ _ _ _ _ _ _ _ _ (c .before .before .before .before .before .before .before .before .before .before .before .round .ensures) (c .before .before .before .before .before .before .before .before .before .before .before .before .before .before .before .before .before .before .loop-test .taken) (not-false _ (c .if2 .left))
       (c .before .before .before .before .before .before .before .before .before .before .before .round .kept .1 .1 .1 .1 .1 .0),
   c .before .before .before .before .before .before .before .before .before .before .before .round .kept .1 .1 .0 ∙ (c .before .before .before .before .before .before .before .before .before .before .before .before .before .before .before .before .before .before .before .loop .inv .1),
   c .before .before .before .before .before .before .before .before .before .before .before .round .kept .1 .1 .1 .0 ∙ (c .before .before .before .before .before .before .before .before .before .before .before .before .before .before .before .before .before .before .before .loop .inv .2),
@@ -108,6 +111,7 @@ returns-3 : tie.Need-returns-3 Inv-loop μ-loop
 returns-3 c =
     record {
       ends = run-spent _ _ _ _ _ _ _ _ _ _ _ _ _ (c .before .loop .inv .0) (c .loop-test .left);
+      marks = λ q. absurd (true≢false (sym q));
       few = c .before .loop .inv .0 .few;
       beyond = c .before .loop .inv .0 .beyond;
       fine = refl;
