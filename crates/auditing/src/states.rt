@@ -1,4 +1,5 @@
 // Questions 16, 18 and 19 of each state in order, and the value of a pick.
+use model::GIVE_UP;
 use reading::index::INDEX;
 use reading::value::row_value;
 use walking::walk::MARKS;
@@ -9,7 +10,7 @@ ghost use mathlib.Core.Logic.{_⊎_};
 ghost use lib.Dec.{eqb};
 ghost use lib.ListN.{length, getD};
 ghost use Rattle.model.specs.Audit.{boundedOn, open-state, pickValueOn};
-ghost use Rattle.model.specs.Limits.{giveUp};
+ghost use Rattle.model.specs.Limits.{giveUp, maxStates};
 ghost use Rattle.model.specs.Problem.{giveUpCost};
 ghost use Rattle.model.specs.Search.{first};
 ghost use Rattle.model.specs.Sections.{problemOf, statesAt};
@@ -47,7 +48,7 @@ pub fn unbounded_state(file: &[u8], values: &[u32], limit: u32, n: usize) -> usi
 
 // Whether s is reached and no goal.
 fn is_open(file: &[u8], marks: &[u8; MARKS], s: usize) -> bool
-    requires { ⌜ (statesAt (now file) ≡ 14) × (21 + 6 * s + 1 ≤ length (now file)) × (s < 1024) ⌝ }
+    requires { ⌜ (statesAt (now file) ≡ 14) × (21 + 6 * s + 1 ≤ length (now file)) × (s < maxStates) ⌝ }
     ensures { λ r. ⌜ r ≡ open-state (problemOf (now (file .entry))) (now (marks .entry)) s ⌝ }
 {
     if is_goal(file, s) {
@@ -58,10 +59,10 @@ fn is_open(file: &[u8], marks: &[u8; MARKS], s: usize) -> bool
 
 // Whether a pick gives up or is a row of state s.
 fn own_or_given(index: &[u32; INDEX], pick: u16, s: usize) -> bool
-    requires { ⌜ s < 1024 ⌝ }
+    requires { ⌜ s < maxStates ⌝ }
     ensures { λ r. ⌜ r ≡ fitting (now (index .entry)) pick s ⌝ }
 {
-    if pick == 65535 {
+    if pick == GIVE_UP {
         return true;
     }
     let r = pick as u32;
@@ -112,7 +113,7 @@ pub fn pick_value(file: &[u8], index: &[u32; INDEX], values: &[u32], pick: u16, 
         × (limit ≡ giveUpCost (problemOf (now file))) × ((pick ≡ giveUp) ⊎ (pick < problemOf (now file) .rows)) ⌝ }
     ensures { λ r. ⌜ r ≡ pickValueOn (eqb pick giveUp) (problemOf (now (file .entry))) (entry (now (values .entry))) pick ⌝ }
 {
-    if pick == 65535 {
+    if pick == GIVE_UP {
         return limit as u64;
     }
     row_value(file, index, values, pick as usize)

@@ -4,6 +4,7 @@ use crate::states::slack_state;
 use crate::states::stray_state;
 use crate::states::unbounded_state;
 use model::AuditAnswer;
+use model::TICKS_PER_SECOND;
 use reading::index::INDEX;
 use reading::layout::settings_of;
 use reading::value::first_undercut;
@@ -16,6 +17,7 @@ ghost use Prim.Native.Nat.{_<_};
 ghost use lib.IntN.{subℕ};
 ghost use Rattle.model.specs.Answers.{auditedOf};
 ghost use Rattle.model.specs.Audit.{refused as audit-refused, tableQuestions};
+ghost use Rattle.model.specs.Limits.{valueBound};
 ghost use Rattle.model.specs.Sections.{problemOf};
 ghost use Rattle.model.specs.Value.{entry};
 ghost use Rattle.auditing.specs.Asked.{TablesAsked, pickQuestions};
@@ -30,7 +32,7 @@ fn excess(value: u32, other: u64) -> i64
 
 // A refusal with its place and its excess.
 pub fn refused(question: u8, place: usize, excess: i64) -> AuditAnswer
-    requires { ⌜ place < 4294967296 ⌝ }
+    requires { ⌜ place < valueBound ⌝ }
     ensures { λ r. ⌜ auditedOf r ≡ audit-refused question place excess ⌝ }
 {
     AuditAnswer::Refused {
@@ -53,7 +55,7 @@ fn pick_questions(
         ⌜ auditedOf r ≡ pickQuestions (problemOf (now (file .entry))) (entry (now (values .entry))) (entry (now (picks .entry))) ⌝ }
 {
     let set = settings_of(file);
-    let limit = 1000 * set.penalty;
+    let limit = TICKS_PER_SECOND * set.penalty;
     let mut marks = [0u8; MARKS];
     let mut list = [0u16; MARKS];
     walk(file, index, picks, &mut marks, &mut list);
@@ -84,7 +86,7 @@ pub fn table_questions(
         ⌜ auditedOf r ≡ tableQuestions (problemOf (now (file .entry))) (entry (now (values .entry))) (entry (now (picks .entry))) ⌝ }
 {
     let set = settings_of(file);
-    let unbounded = unbounded_state(file, values, 1000 * set.penalty, n);
+    let unbounded = unbounded_state(file, values, TICKS_PER_SECOND * set.penalty, n);
     if unbounded < n {
         return refused(16, unbounded, 0);
     }

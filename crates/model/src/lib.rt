@@ -1,11 +1,43 @@
 // The answers and the limits of document 01. What they mean is in specs/.
 
+// The numbers of document 01, each under the name that specs/Limits.antt gives it.
+
 // The longest problem: section counts that question 2 lets through.
+pub const SETTING_COUNT: u32 = 3;
+
 pub const MAX_STATES: usize = 1024;
 
 pub const MAX_ROWS: usize = 4096;
 
 pub const MAX_OUTCOMES: usize = 8192;
+
+// Tolerance in ticks, penalty in seconds.
+pub const MAX_TOLERANCE: u32 = 999;
+
+pub const MAX_PENALTY: u32 = 400000;
+
+pub const TICKS_PER_SECOND: u32 = 1000;
+
+pub const WEIGHT_TOTAL: u32 = 1000;
+
+// Melt rates in tenths of a millimetre per minute, and the seconds of a stick at rate 1.
+pub const MIN_RATE: u32 = 10;
+
+pub const MAX_RATE: u32 = 1000;
+
+pub const STICK_SECONDS: u32 = 600000;
+
+// Picks that are no rows, and the end of a walk list.
+pub const GIVE_UP: u16 = 65535;
+
+pub const NO_PICK: u16 = 65534;
+
+pub const LIST_END: u16 = 65535;
+
+pub const MAX_BUDGET: u64 = 2000000000000000;
+
+// A row value at least this does not fit in 32 bits.
+pub const VALUE_BOUND: u64 = 4294967296;
 
 // The answer to questions 1 to 11 about a file.
 pub enum FileAnswer {

@@ -2,11 +2,16 @@
 // cost in ticks.
 use crate::numbers::byte_at;
 use crate::numbers::u16_at;
+use model::MAX_ROWS;
+use model::MAX_STATES;
+use model::STICK_SECONDS;
+use model::TICKS_PER_SECOND;
 ghost use mathlib.Core.Path.{_≡_};
 ghost use mathlib.Core.Bool.{true};
 ghost use Prim.Native.Nat.{ℕ, _+_, _*_, _≤_, _<_};
 ghost use lib.Dec.{eqb};
 ghost use lib.ListN.{length, getD, set};
+ghost use Rattle.model.specs.Limits.{maxRows, maxStates, ticksPerSecond};
 ghost use Rattle.model.specs.Questions.{costObeys};
 ghost use Rattle.model.specs.Rounds.{fillTo};
 ghost use Rattle.model.specs.Search.{first, sumTo};
@@ -15,13 +20,13 @@ ghost use Rattle.reading.specs.Tests.{rowCountAt, rowTest, outcomeCountA
 
 // Entry s, for s up to the number of states: the first row of state s. Entry ROWS + 2 r, for r up to the number of rows: where
 // the outcomes of row r begin. Entry ROWS + 2 r + 1: the cost of row r in ticks.
-pub const ROWS: usize = 1025;
+pub const ROWS: usize = MAX_STATES + 1;
 
-pub const INDEX: usize = 9219;
+pub const INDEX: usize = ROWS + 2 * MAX_ROWS + 2;
 
 // Fills in the first rows of the states, and answers the sum of their row numbers: question 7.
 pub fn index_states(file: &[u8], at: usize, n: usize, index: &mut [u32; INDEX]) -> u32
-    requires { ⌜ (at + 6 * n ≤ length (now file)) × (n ≤ 1024) ⌝ }
+    requires { ⌜ (at + 6 * n ≤ length (now file)) × (n ≤ maxStates) ⌝ }
     ensures { λ r.
         ⌜ (r ≡ sumTo (rowCountAt (now (file .entry)) at) n)
         × (now (index .exit) ≡ fillTo (sumTo (rowCountAt (now (file .entry)) at)) (now (index .entry)) (n + 1)) ⌝ }
@@ -40,18 +45,18 @@ pub fn index_states(file: &[u8], at: usize, n: usize, index: &mut [u32; INDEX]) 
 // "600,000 / r rounded up" seconds for a melt rate, or the seconds themselves, in ticks.
 fn ticks(kind: u32, number: u32) -> u32
     requires { ⌜ costObeys (eqb kind 0) number ≡ true ⌝ }
-    ensures { λ r. ⌜ r ≡ 1000 * secondsOn (eqb kind 0) number ⌝ }
+    ensures { λ r. ⌜ r ≡ ticksPerSecond * secondsOn (eqb kind 0) number ⌝ }
 {
     if kind == 0 {
-        1000 * number
+        TICKS_PER_SECOND * number
     } else {
-        1000 * ((600000 + (number - 1)) / number)
+        TICKS_PER_SECOND * ((STICK_SECONDS + (number - 1)) / number)
     }
 }
 
 // Fills in where the outcomes of each row begin, and its cost in ticks. Answers the sum of the outcome numbers: question 9.
 pub fn index_rows(file: &[u8], at: usize, n: usize, at3: usize, index: &mut [u32; INDEX]) -> u32
-    requires { ⌜ (at + 4 * n ≤ length (now file)) × (n ≤ 4096) × (at3 ≤ 65536) × ((r : ℕ) → r < n → rowTest (now file) at r ≡ true) ⌝ }
+    requires { ⌜ (at + 4 * n ≤ length (now file)) × (n ≤ maxRows) × (at3 ≤ 65536) × ((r : ℕ) → r < n → rowTest (now file) at r ≡ true) ⌝ }
     ensures { λ r. ⌜ RowsIndexed (now (file .entry)) at n at3 (now (index .entry)) (now (index .exit)) r ⌝ }
 {
     let mut total: u32 = 0;
@@ -68,7 +73,7 @@ pub fn index_rows(file: &[u8], at: usize, n: usize, at3: usize, index: &mut [u32
 
 // Question 10: the first row whose outcomes do not obey section 3, or n.
 pub fn bad_outcomes(file: &[u8], n: usize, states: usize, index: &[u32; INDEX]) -> usize
-    requires { ⌜ (n ≤ 4096) × ((r : ℕ) → r < n → PartThere (now file) (now index) r) ⌝ }
+    requires { ⌜ (n ≤ maxRows) × ((r : ℕ) → r < n → PartThere (now file) (now index) r) ⌝ }
     ensures { λ r.
         ⌜ r ≡ first (λ k. outcomesTest states (outcomesIn (partOf (now (file .entry)) (now (index .entry)) k))) 0 n ⌝ }
 {

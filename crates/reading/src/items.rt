@@ -2,6 +2,9 @@
 use crate::numbers::byte_at;
 use crate::numbers::u16_at;
 use crate::numbers::u32_at;
+use model::MAX_RATE;
+use model::MIN_RATE;
+use model::WEIGHT_TOTAL;
 ghost use mathlib.Core.Path.{_≡_};
 ghost use Prim.Native.Nat.{_+_, _*_, _≤_, _<_};
 ghost use lib.ListN.{length, getD};
@@ -65,10 +68,10 @@ fn row_obeys(file: &[u8], i: usize) -> bool
     if kind != 1 {
         return false;
     }
-    if number < 10 {
+    if number < MIN_RATE {
         return false;
     }
-    number <= 1000
+    number <= MAX_RATE
 }
 
 // Question 8: the first of the n rows at `at` that does not obey section 2, or n.
@@ -104,11 +107,11 @@ pub fn outcomes_obey(part: &[u8], states: usize) -> bool
         if weight < 1 {
             return false;
         }
-        if 1000 < weight {
+        if WEIGHT_TOTAL < weight {
             return false;
         }
         total += weight;
         i += 1;
     }
-    total == 1000
+    total == WEIGHT_TOTAL
 }

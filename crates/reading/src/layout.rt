@@ -2,6 +2,12 @@
 use crate::numbers::u16_at;
 use crate::numbers::u32_at;
 use model::FileAnswer;
+use model::MAX_OUTCOMES;
+use model::MAX_PENALTY;
+use model::MAX_ROWS;
+use model::MAX_STATES;
+use model::MAX_TOLERANCE;
+use model::SETTING_COUNT;
 ghost use mathlib.Core.Path.{_≡_};
 ghost use Prim.Native.Nat.{ℕ, _+_, _≤_, _<_};
 ghost use lib.Dec.{leb};
@@ -56,7 +62,7 @@ fn section_end(file: &[u8], i: usize, size: usize) -> usize
 pub fn sections(file: &[u8]) -> FileAnswer
     ensures { λ r. ⌜ verdictOf r ≡ layoutQuestions (now (file .entry)) ⌝ }
 {
-    let q0 = section(file, 0, 4, 3, 3);
+    let q0 = section(file, 0, 4, SETTING_COUNT, SETTING_COUNT);
     if q0 != 0 {
         return FileAnswer::Refused {
             question: q0,
@@ -64,7 +70,7 @@ pub fn sections(file: &[u8]) -> FileAnswer
         };
     }
     let i1 = section_end(file, 0, 4);
-    let q1 = section(file, i1, 6, 1, 1024);
+    let q1 = section(file, i1, 6, 1, MAX_STATES as u32);
     if q1 != 0 {
         return FileAnswer::Refused {
             question: q1,
@@ -72,7 +78,7 @@ pub fn sections(file: &[u8]) -> FileAnswer
         };
     }
     let i2 = section_end(file, i1, 6);
-    let q2 = section(file, i2, 4, 0, 4096);
+    let q2 = section(file, i2, 4, 0, MAX_ROWS as u32);
     if q2 != 0 {
         return FileAnswer::Refused {
             question: q2,
@@ -80,7 +86,7 @@ pub fn sections(file: &[u8]) -> FileAnswer
         };
     }
     let i3 = section_end(file, i2, 4);
-    let q3 = section(file, i3, 4, 0, 8192);
+    let q3 = section(file, i3, 4, 0, MAX_OUTCOMES as u32);
     if q3 != 0 {
         return FileAnswer::Refused {
             question: q3,
@@ -146,13 +152,13 @@ pub fn bad_setting(set: Settings, states: usize) -> u32
     if tolerance < 1 {
         return 1;
     }
-    if 999 < tolerance {
+    if MAX_TOLERANCE < tolerance {
         return 1;
     }
     if penalty < 1 {
         return 2;
     }
-    if 400000 < penalty {
+    if MAX_PENALTY < penalty {
         return 2;
     }
     3

@@ -14,10 +14,13 @@ use crate::numbers::byte_at;
 use crate::value::estimates;
 use crate::value::first_undercut;
 use model::FileAnswer;
+use model::MAX_STATES;
+use model::TICKS_PER_SECOND;
 ghost use mathlib.Core.Path.{_≡_};
 ghost use Prim.Native.Nat.{ℕ, _<_};
 ghost use lib.ListN.{length};
 ghost use Rattle.model.specs.Answers.{verdictOf};
+ghost use Rattle.model.specs.Limits.{valueBound};
 ghost use Rattle.model.specs.Lookup.{rowsOf};
 ghost use Rattle.model.specs.Questions.{passes, fails, layoutQuestions, fileQuestions};
 ghost use Rattle.reading.specs.Asked.{RowsAsked, RowsAnswered, ValuesAsked, ValuesAnswered, ItemsAnswered, FileAnswered};
@@ -25,7 +28,7 @@ ghost use Rattle.reading.specs.Tests.{indexSize};
 
 // A refusal with its place.
 fn refused(question: u8, place: usize) -> FileAnswer
-    requires { ⌜ place < 4294967296 ⌝ }
+    requires { ⌜ place < valueBound ⌝ }
     ensures { λ r. ⌜ verdictOf r ≡ fails question place ⌝ }
 {
     FileAnswer::Refused {
@@ -66,7 +69,7 @@ fn value_questions(file: &[u8], l: Layout, index: &[u32; INDEX]) -> FileAnswer
     if r < rows {
         return refused(10, r);
     }
-    let mut values = [0u32; 1024];
+    let mut values = [0u32; MAX_STATES];
     estimates(file, l.at1, states, &mut values);
     let u = first_undercut(file, index, &values, states);
     if u.state < states {
@@ -86,7 +89,7 @@ fn item_questions(file: &[u8], l: Layout, index: &mut [u32; INDEX]) -> FileAnswe
     if bad < 3 {
         return refused(4, bad as usize);
     }
-    let s = bad_state(file, l.at1, states, 1000 * set.penalty);
+    let s = bad_state(file, l.at1, states, TICKS_PER_SECOND * set.penalty);
     if s < states {
         return refused(5, s);
     }

@@ -3,11 +3,13 @@ use crate::index::INDEX;
 use crate::index::ROWS;
 use crate::numbers::u16_at;
 use crate::numbers::u32_at;
+use model::WEIGHT_TOTAL;
 ghost use mathlib.Core.Path.{_≡_};
 ghost use Prim.Native.Nat.{ℕ, _+_, _*_, _/_, _≤_, _<_};
 ghost use lib.Dec.{ltb};
 ghost use lib.ListN.{length};
 ghost use Rattle.model.specs.Bytes.{u32At};
+ghost use Rattle.model.specs.Limits.{weightTotal};
 ghost use Rattle.model.specs.Rounds.{fillTo};
 ghost use Rattle.model.specs.Sections.{problemOf};
 ghost use Rattle.model.specs.Value.{rowValue, weightedSum, entry};
@@ -32,9 +34,9 @@ fn weighted_sum(part: &[u8], values: &[u32]) -> u64
 
 // A weighted sum divided by 1,000, rounded down once.
 fn average(sum: u64) -> u64
-    ensures { λ r. ⌜ r ≡ sum / 1000 ⌝ }
+    ensures { λ r. ⌜ r ≡ sum / weightTotal ⌝ }
 {
-    sum / 1000
+    sum / (WEIGHT_TOTAL as u64)
 }
 
 // The value of row r under `values`: its cost in ticks and the weighted sum, divided by 1,000 once.

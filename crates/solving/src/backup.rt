@@ -3,6 +3,7 @@ use crate::scan::Found;
 use crate::scan::LOG;
 use crate::scan::scan;
 use crate::scan::undo;
+use model::GIVE_UP;
 use reading::index::INDEX;
 ghost use mathlib.Core.Path.{_≡_};
 ghost use mathlib.Core.Bool.{false, _||_, not};
@@ -80,7 +81,7 @@ pub fn backup(
     let prev = picks[s];
     let start = Found {
         best: give,
-        pick: 65535,
+        pick: GIVE_UP,
         count: t.count,
         over: false,
     };

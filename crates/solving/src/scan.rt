@@ -1,4 +1,5 @@
 // The rows of one backup: the one picked before first, then the others in row order.
+use model::VALUE_BOUND;
 use reading::index::INDEX;
 use reading::value::row_value;
 ghost use mathlib.Core.Path.{_≡_};
@@ -94,7 +95,7 @@ fn consider(
         return a;
     }
     let q = row_value(file, index, values, r);
-    if 4294967296 <= q {
+    if VALUE_BOUND <= q {
         return too_large(r, a);
     }
     let value = q as u32;

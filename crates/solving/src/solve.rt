@@ -7,6 +7,7 @@ use crate::tables::remember;
 use crate::tables::solve_questions;
 use model::FileAnswer;
 use model::SolveAnswer;
+use model::TICKS_PER_SECOND;
 use reading::index::INDEX;
 use reading::layout::layout_of;
 use reading::layout::settings_of;
@@ -94,7 +95,7 @@ fn solve_ready(
         list,
         &mut marks,
         set.tolerance,
-        1000 * set.penalty,
+        TICKS_PER_SECOND * set.penalty,
         budget,
     );
     pad(list, end.listed, states);

@@ -1,5 +1,8 @@
 // The lent tables: whether they are long enough, how they begin, and how the walk list ends.
 use model::FileAnswer;
+use model::LIST_END;
+use model::MAX_BUDGET;
+use model::NO_PICK;
 use reading::index::INDEX;
 use reading::value::row_value;
 ghost use mathlib.Core.Path.{_≡_};
@@ -49,7 +52,7 @@ pub fn solve_questions(
             place: 3,
         };
     }
-    if 2000000000000000 < budget {
+    if MAX_BUDGET < budget {
         return FileAnswer::Refused {
             question: 13,
             place: 0,
@@ -65,7 +68,7 @@ pub fn no_picks(picks: &mut [u16], n: usize)
 {
     let mut s = 0;
     while s < n {
-        picks[s] = 65534;
+        picks[s] = NO_PICK;
         s += 1;
     }
 }
@@ -91,7 +94,7 @@ pub fn pad(list: &mut [u16], k: usize, n: usize)
 {
     let mut i = k;
     while i < n {
-        list[i] = 65535;
+        list[i] = LIST_END;
         i += 1;
     }
 }

@@ -1,6 +1,8 @@
 // "C is the least of 1000 × c or 1000 × D over the picks at reached states that aren't goals."
 use crate::walk::MARKS;
 use crate::walk::is_goal;
+use model::GIVE_UP;
+use model::TICKS_PER_SECOND;
 use reading::index::INDEX;
 use reading::index::ROWS;
 use reading::numbers::u32_at;
@@ -8,6 +10,7 @@ ghost use mathlib.Core.Path.{_≡_};
 ghost use Prim.Native.Nat.{_+_, _*_, _<_};
 ghost use mathlib.Core.Logic.{_⊎_};
 ghost use lib.ListN.{getD};
+ghost use Rattle.model.specs.Limits.{giveUp, maxRows};
 ghost use Rattle.model.specs.Problem.{giveUpCost};
 ghost use Rattle.model.specs.Sections.{problemOf};
 ghost use Rattle.model.specs.Value.{entry};
@@ -17,10 +20,10 @@ ghost use Rattle.walking.specs.Costs.{PickCosts, Costed, lowerTo};
 
 // What a pick costs: the limit where it gives up, else its row's cost in ticks.
 fn pick_cost(index: &[u32; INDEX], pick: u16, limit: u32) -> u32
-    requires { ⌜ (pick ≡ 65535) ⊎ (pick < 4096) ⌝ }
+    requires { ⌜ (pick ≡ giveUp) ⊎ (pick < maxRows) ⌝ }
     ensures { λ r. ⌜ PickCosts (now (index .entry)) pick limit r ⌝ }
 {
-    if pick == 65535 {
+    if pick == GIVE_UP {
         return limit;
     }
     index[ROWS + 2 * (pick as usize) + 1]
@@ -62,7 +65,7 @@ pub fn least_cost(
         × (n ≡ problemOf (now file) .states) × (getD (now marks) (problemOf (now file) .start) 0 ≡ 1) ⌝ }
     ensures { λ r. ⌜ r ≡ leastTo (problemOf (now (file .entry))) (entry (now (picks .entry))) (now (marks .entry)) n ⌝ }
 {
-    let limit = 1000 * u32_at(file, 10);
+    let limit = TICKS_PER_SECOND * u32_at(file, 10);
     let start = u32_at(file, 2) as usize;
     let mut least = pick_cost(index, picks[start], limit);
     let mut s = 0;

@@ -1,4 +1,5 @@
 // "Walk from the start with the picks as they are": visit_state and visit_outcomes call each other.
+use model::MAX_STATES;
 use reading::index::INDEX;
 use reading::index::ROWS;
 use reading::numbers::byte_at;
@@ -7,11 +8,13 @@ use reading::numbers::u32_at;
 ghost use mathlib.Core.Path.{_≡_};
 ghost use Prim.Native.Nat.{_+_, _*_, _≤_, _<_};
 ghost use lib.ListN.{length, getD};
+ghost use Rattle.model.specs.Limits.{maxRows, maxStates};
 ghost use Rattle.model.specs.Sections.{problemOf, statesAt};
+ghost use Rattle.reading.specs.Tests.{indexSize};
 ghost use Rattle.walking.specs.Trails.{Walkable, Picked, Outcomes, Under, Over, Walked, visitedState, visitedOutcomes};
 
 // "Each walk begins with 1,024 marks": one for each state that a file can have.
-pub const MARKS: usize = 1024;
+pub const MARKS: usize = MAX_STATES;
 
 // A part of the file, from a byte up to another.
 struct Part {
@@ -27,7 +30,7 @@ fn wide(x: u32) -> usize
 
 // Entry i of the index.
 fn entry(index: &[u32; INDEX], i: usize) -> usize
-    requires { ⌜ i < 9219 ⌝ }
+    requires { ⌜ i < indexSize ⌝ }
     ensures { λ r. ⌜ r ≡ getD (now (index .entry)) i 0 ⌝ }
 {
     wide(index[i])
@@ -35,7 +38,7 @@ fn entry(index: &[u32; INDEX], i: usize) -> usize
 
 // Where the outcomes of row `pick` stand; an empty part where it is not one of state s's own.
 fn picked(index: &[u32; INDEX], s: usize, pick: usize) -> Part
-    requires { ⌜ (s < 1024) × (getD (now index) (s + 1) 0 ≤ 4096) ⌝ }
+    requires { ⌜ (s < maxStates) × (getD (now index) (s + 1) 0 ≤ maxRows) ⌝ }
     ensures { λ r. ⌜ Picked (now (index .entry)) s pick (r .from) (r .to) ⌝ }
 {
     if pick < entry(index, s) {

@@ -25,6 +25,9 @@ section-end-requires c κs =
     let t = section-there 0 0 4 3 3 _ (section-passes _ _ _ _ _ 0 _ refl (c .before .section .ensures) 0 (c .if1 .left)) in
     omega arith
 
+cast-section : tie.Need-cast-section
+cast-section c = search needs
+
 section-requires-2 : tie.Need-section-requires-2
 section-requires-2 c κs =
     let t = section-there 0 0 4 3 3 _ (section-passes _ _ _ _ _ 0 _ refl (c .before .before .section .ensures) 0 (c .before .if1 .left)) in
@@ -41,6 +44,9 @@ section-end-requires-2 : tie.Need-section-end-requires-2
 section-end-requires-2 c κs =
     let t = section-there 1 _ 6 1 1024 _ (section-passes _ _ _ _ _ _ _ refl (c .before .section2 .ensures) 1 (c .if2 .left)) in
     omega arith
+
+cast-section-2 : tie.Need-cast-section-2
+cast-section-2 c = search needs
 
 section-requires-3 : tie.Need-section-requires-3
 section-requires-3 c κs =
@@ -60,6 +66,9 @@ section-end-requires-3 : tie.Need-section-end-requires-3
 section-end-requires-3 c κs =
     let t = section-there 2 _ 4 0 4096 _ (section-passes _ _ _ _ _ _ _ refl (c .before .section3 .ensures) 2 (c .if3 .left)) in
     omega arith
+
+cast-section-3 : tie.Need-cast-section-3
+cast-section-3 c = search needs
 
 section-requires-4 : tie.Need-section-requires-4
 section-requires-4 c κs =
@@ -115,12 +124,15 @@ sections-spec =
     section-requires
     returns
     section-end-requires
+    cast-section
     section-requires-2
     returns-2
     section-end-requires-2
+    cast-section-2
     section-requires-3
     returns-3
     section-end-requires-3
+    cast-section-3
     section-requires-4
     returns-4
     section-end-requires-4
