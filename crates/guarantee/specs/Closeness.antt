@@ -54,7 +54,8 @@ module _ (p : Problem) (formed : WellFormed p) (v : ℕ → ℕ) (zeros : (s : �
           omega (arith, rowValue-low p r v) in
           let sums = row-full weightTotal K (suc M) (rowTicks p r) (v s) (u s) (weightedSum os v) (weightedSum os u) low (covers .2) full in
           let below =
-          row-small weightTotal K (suc M) (rowTicks p r) (v s) (u s) (weightedSum os v) (weightedSum os u) low (covers .2) some (omega arith)
+          row-small weightTotal K (suc M) (rowTicks p r) (v s) (u s) (weightedSum os v) (weightedSum os u)
+          low (covers .2) some (omega arith)
           (omega (arith, formed .cost-low r row)) in
           let small = some-small os u (u s) (rw (formed .weights r row) below) in
           let t = small .outcome .successor in

@@ -203,5 +203,6 @@ module _ (f : List ℕ) (budget : ℕ) (t : Tables) where
       let by = solved-by n e C h in
       let long = lent-long (problemOf f) budget t (by .lent) in
       rw (by .left)
-      (solved-passes-audit f (t .values) (t .picks) (t .remembered) (by .file) (long .values-long) (long .picks-long) (long .remembered-long)
+      (solved-passes-audit f (t .values) (t .picks) (t .remembered) (by .file)
+      (long .values-long) (long .picks-long) (long .remembered-long)
       budget n (by .machine) (by .run) ∙ ap accepted (by .least))

@@ -26,16 +26,20 @@ pub data Allowed (p : Problem) (s x : ℕ) : Type 0 where
   gives-up : x ≡ giveUp → Allowed p s x
   own-row : ownRow p s x ≡ true → Allowed p s x
 
-pub record Sound (p : Problem) (m : Machine) : Type 0 where
-  pub values-length : p .states ≤ length (m .values)
-  pub picks-length : p .states ≤ length (m .picks)
-  pub remembered-length : p .rows ≤ length (m .remembered)
-  pub goal-values : (s : ℕ) → s < p .states → p .goal s ≡ true → getD (m .values) s 0 ≡ 0
-  pub high : (s : ℕ) → s < p .states → getD (m .values) s 0 ≤ giveUpCost p
-  pub under : NoUndercut p (entry (m .values))
-  pub memory : Memory p (entry (m .values)) (m .remembered)
-  pub picked : (s : ℕ) → s < p .states → Allowed p s (getD (m .picks) s 0)
-  pub goal-picks : (s : ℕ) → s < p .states → p .goal s ≡ true → getD (m .picks) s 0 ≡ noPick
+pub record SoundTables (p : Problem) (values picks remembered : List ℕ) : Type 0 where
+  pub values-length : p .states ≤ length values
+  pub picks-length : p .states ≤ length picks
+  pub remembered-length : p .rows ≤ length remembered
+  pub goal-values : (s : ℕ) → s < p .states → p .goal s ≡ true → getD values s 0 ≡ 0
+  pub high : (s : ℕ) → s < p .states → getD values s 0 ≤ giveUpCost p
+  pub under : NoUndercut p (entry values)
+  pub memory : Memory p (entry values) remembered
+  pub picked : (s : ℕ) → s < p .states → Allowed p s (getD picks s 0)
+  pub goal-picks : (s : ℕ) → s < p .states → p .goal s ≡ true → getD picks s 0 ≡ noPick
+
+-- soundness looks at the machine's three tables only
+abbrev pub Sound : Problem → Machine → Type 0
+Sound p m = SoundTables p (m .values) (m .picks) (m .remembered)
 
 -- what holds of every entry, and of best at s, holds of every entry after a backup
 pub raised : (P : ℕ → ℕ → Type 0) (b : Bool) (l : List ℕ) (s x : ℕ) → ((j : ℕ) → P j (getD l j 0)) → P s x

@@ -16,7 +16,8 @@ use Rattle.model.specs.Search.{sumTo}
 use Rattle.model.specs.Walk.{In, here, there, nextOn, next, walk, Reached, at-start, along}
 use Rattle.model.specs.Walk.{pickCost, leastOn, leastTo, leastCost}
 use Rattle.guarantee.specs.Formed.{WellFormed}
-use Rattle.guarantee.specs.Graphs.{sumOver, sumOver-each, sumTo-each, each, NoDup, no-dup, one-place, only, only-once, in-nil, in-cons}
+use Rattle.guarantee.specs.Graphs.{sumOver, sumOver-each, sumTo-each, each, NoDup, no-dup, one-place}
+use Rattle.guarantee.specs.Graphs.{only, only-once, in-nil, in-cons}
 use Rattle.guarantee.specs.Graphs.{Whole, whole-walk, visit-same}
 use Rattle.guarantee.specs.Searches.{and-left, and-right}
 

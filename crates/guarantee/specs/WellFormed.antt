@@ -319,7 +319,8 @@ well-formed f h =
       cost-low = λ r l. cost-range f h r l .0;
       cost-high = λ r l. cost-range f h r l .1;
       successor-state = λ r l o i. ltb-true _ _ (and-left _ _ (outcome-yes f h r l o i));
-      weight-low = λ r l o i. between-low 1 weightTotal (o .weight) (and-right (ltb (o .successor) (p .states)) _ (outcome-yes f h r l o i));
+      weight-low =
+          λ r l o i. between-low 1 weightTotal (o .weight) (and-right (ltb (o .successor) (p .states)) _ (outcome-yes f h r l o i));
       weights = λ r l. eqb-true _ _ (and-right (outcomesObey (p .states) (p .outcomes r)) _ (outcomes-yes f h r l));
       estimate-under = undercut-none p (p .estimate) (ask-yes 11 _ _ (asked f h .estimates));
     }

@@ -5,10 +5,12 @@ use mathlib.Core.List.{List, [], _∷_}
 use lib.Dec.{leb, ltb, eqb}
 use lib.ListN.{length}
 use Rattle.model.specs.Bytes.{u16At}
-use Rattle.model.specs.Limits.{settingCount, maxStates, maxRows, maxOutcomes, maxTolerance, maxPenalty, maxSeconds, minRate, maxRate, weightTotal}
+use Rattle.model.specs.Limits.{settingCount, maxStates, maxRows, maxOutcomes, maxTolerance, maxPenalty}
+use Rattle.model.specs.Limits.{maxSeconds, minRate, maxRate, weightTotal}
 use Rattle.model.specs.Problem.{Problem, Outcome, endRow, giveUpCost}
 use Rattle.model.specs.Search.{first, sumTo}
-use Rattle.model.specs.Sections.{sectionEnd, statesAt, rowsAt, outcomesAt, fileEnd, goalByteOf, kindOf, outcomeCountOf, costNumberOf, problemOf}
+use Rattle.model.specs.Sections.{sectionEnd, statesAt, rowsAt, outcomesAt, fileEnd, problemOf}
+use Rattle.model.specs.Sections.{goalByteOf, kindOf, outcomeCountOf, costNumberOf}
 use Rattle.model.specs.Value.{rowValue, totalWeight}
 
 -- "A no ends the call with the number and a place"
@@ -37,7 +39,9 @@ between low high x = leb low x && leb x high
 -- "are count bytes there? 1. Is the count in range? 2. Are all items there? 1. (Place: section.)"
 unfoldable pub sectionQuestions : ℕ → ℕ → ℕ → ℕ → ℕ → List ℕ → Verdict
 sectionQuestions place i size low high f =
-    ask 1 place (leb (i + 2) (length f)) then ask 2 place (between low high (u16At f i)) then ask 1 place (leb (sectionEnd size f i) (length f))
+    ask 1 place (leb (i + 2) (length f))
+    then ask 2 place (between low high (u16At f i))
+    then ask 1 place (leb (sectionEnd size f i) (length f))
 
 -- "Does the file end there? 3 (3)."
 unfoldable pub endQuestion : List ℕ → Verdict
@@ -54,7 +58,9 @@ layoutQuestions f =
 -- "Is the start below the state count, then e, then D in range? 4 (setting 0 to 2)."
 unfoldable pub settingQuestions : Problem → Verdict
 settingQuestions p =
-    ask 4 0 (ltb (p .start) (p .states)) then ask 4 1 (between 1 maxTolerance (p .tolerance)) then ask 4 2 (between 1 maxPenalty (p .penalty))
+    ask 4 0 (ltb (p .start) (p .states))
+    then ask 4 1 (between 1 maxTolerance (p .tolerance))
+    then ask 4 2 (between 1 maxPenalty (p .penalty))
 
 -- "goal byte (1 goal, 0 not). A goal has no rows and H = 0. .. H is at most 1000 × D."
 unfoldable pub stateObeys : ℕ → ℕ → ℕ → ℕ → Bool

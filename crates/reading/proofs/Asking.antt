@@ -9,9 +9,10 @@ use lib.Dec.{leb, ltb, eqb}
 use lib.ListN.{length, getD, replicate, length-replicate}
 use borrow.Author.Tests.{lt-leb, le-leb, eq-eqb, ne-eqb, ltb-true}
 use Rattle.model.specs.Bytes.{u16At, u32At}
-use Rattle.model.specs.Limits.{maxTolerance, maxPenalty}
+use Rattle.model.specs.Limits.{maxStates, maxTolerance, maxPenalty}
 use Rattle.model.specs.Problem.{Problem, endRow, giveUpCost}
-use Rattle.model.specs.Questions.{Verdict, passes, fails, _then_, ask, between, layoutQuestions, settingQuestions, stateQuestion, startQuestion}
+use Rattle.model.specs.Questions.{Verdict, passes, fails, _then_, ask, between}
+use Rattle.model.specs.Questions.{layoutQuestions, settingQuestions, stateQuestion, startQuestion}
 use Rattle.model.specs.Questions.{rowNumberQuestion, rowQuestion, outcomeNumberQuestion, outcomeQuestion, estimateQuestion, itemQuestions}
 use Rattle.model.specs.Questions.{fileQuestions, undercutState, undercutRow}
 use Rattle.model.specs.Rounds.{fillTo}
@@ -26,7 +27,8 @@ use Rattle.reading.specs.Asked.{RowsAsked, RowsAnswered, ValuesAsked, Va
 use Rattle.reading.specs.Indexed.{Indexed}
 use Rattle.reading.specs.Laid.{LaidOut, Set, SettingAnswer}
 use Rattle.reading.specs.Ready.{Ready, Undercuts}
-use Rattle.reading.specs.Tests.{stateTest, rowTest, rowCountAt, outcomeCountAt, outcomesIn, outcomesTest, partOf, RowsIndexed, indexSize}
+use Rattle.reading.specs.Tests.{stateTest, rowTest, rowCountAt, outcomeCountAt, RowsIndexed, indexSize}
+use Rattle.reading.specs.Tests.{outcomesIn, outcomesTest, partOf}
 use Rattle.reading.proofs.Indexing.{Filled, indexed, same-search, ready}
 
 -- a refusal passes nothing
@@ -141,25 +143,28 @@ module _ (f index : List ℕ) (at1 n at2 m at3 k : ℕ) (asked : ValuesAsked f i
   pub known : RowsAsked f at1 n at2 m at3 k
   known = record { whole = asked .whole; laid = asked .laid }
 
-  ten : outcomeQuestion (problemOf f)
-      ≡ ask 10 (first (λ j. outcomesTest n (outcomesIn (partOf f index j))) 0 m) (leb m (first (λ j. outcomesTest n (outcomesIn (partOf f index j))) 0 m))
+  -- the first row whose part of the file does not obey section 3
+  abbrev badPart : ℕ
+  badPart = first (λ j. outcomesTest n (outcomesIn (partOf f index j))) 0 m
+
+  ten : outcomeQuestion (problemOf f) ≡ ask 10 badPart (leb m badPart)
   unfolding outcomeQuestion
   ten = rw (states-are _ _ _ _ _ _ _ known, rows-are _ _ _ _ _ _ _ known, same-search f index (asked .indexed))
 
-  pub ten-no : (r : ℕ) → r ≡ first (λ j. outcomesTest n (outcomesIn (partOf f index j))) 0 m → r < m → outcomeQuestion (problemOf f) ≡ fails 10 r
+  pub ten-no : (r : ℕ) → r ≡ badPart → r < m → outcomeQuestion (problemOf f) ≡ fails 10 r
   ten-no r e h = rw (ten, ← e, lt-leb _ _ h)
 
-  pub ten-yes : (r : ℕ) → r ≡ first (λ j. outcomesTest n (outcomesIn (partOf f index j))) 0 m → m ≤ r → outcomeQuestion (problemOf f) ≡ passes
+  pub ten-yes : (r : ℕ) → r ≡ badPart → m ≤ r → outcomeQuestion (problemOf f) ≡ passes
   ten-yes r e h = rw (ten, ← e, le-leb _ _ h)
 
   module _ (passed : outcomeQuestion (problemOf f) ≡ passes) (values : List ℕ)
-      (filled : values ≡ fillTo (λ s. u32At f (at1 + 6 * s)) (replicate 1024 0) n) (s r : ℕ) (found : Undercuts f (entry values) s r) where
+      (filled : values ≡ fillTo (λ s. u32At f (at1 + 6 * s)) (replicate maxStates 0) n) (s r : ℕ) (found : Undercuts f (entry values) s r) where
     agree : (j : ℕ) → j < problemOf f .states → entry values j ≡ problemOf f .estimate j
     unfolding problemOf
     agree j l =
-        let long : n ≤ length {A = ℕ} (replicate 1024 0) = rw length-replicate (asked .laid .states-high) in
+        let long : n ≤ length {A = ℕ} (replicate maxStates 0) = rw length-replicate (asked .laid .states-high) in
         let below : j < n = rw (asked .laid .states-count) l in
-        rw filled (fill-entry (λ s. u32At f (at1 + 6 * s)) (replicate 1024 0) n j long below ∙ rw (asked .laid .states-at))
+        rw filled (fill-entry (λ s. u32At f (at1 + 6 * s)) (replicate maxStates 0) n j long below ∙ rw (asked .laid .states-at))
 
     within : (j : ℕ) → j < problemOf f .states → endRow (problemOf f) j ≤ problemOf f .rows
     within = ready f index (asked .indexed) passed .rows-within
@@ -171,7 +176,8 @@ module _ (f index : List ℕ) (at1 n at2 m at3 k : ℕ) (asked : ValuesAsked f i
     unfolding estimateQuestion
     eleven-no l =
         let below : s < problemOf f .states = rw (← states-are _ _ _ _ _ _ _ known) l in
-        let row = found .row-is below ∙ undercut-row-same (problemOf f) (entry values) (problemOf f .estimate) passed within agree s below in
+        let same = undercut-row-same (problemOf f) (entry values) (problemOf f .estimate) passed within agree s below in
+        let row = found .row-is below ∙ same in
         rw (← same-state, lt-leb _ _ below, ← row)
 
     pub eleven-yes : n ≤ s → estimateQuestion (problemOf f) ≡ passes

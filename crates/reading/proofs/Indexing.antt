@@ -23,7 +23,7 @@ use Rattle.guarantee.specs.Parts.{obey-successor}
 use Rattle.guarantee.specs.Searches.{and-left, ask-each-yes, first-same}
 use Rattle.guarantee.specs.Tables.{fill-length, fill-entry, pair-first, pair-second, pair-other}
 use Rattle.guarantee.specs.WellFormed.{Sectioned, laid-sums, between-low, between-high}
-use Rattle.reading.proofs.RowParts.{part-reads}
+use Rattle.reading.proofs.RowParts.{part-reads, part-begins, part-ends}
 use Rattle.reading.specs.Indexed.{Indexed}
 use Rattle.reading.specs.Ready.{Ready}
 use Rattle.reading.specs.Tests.{rowCountAt, outcomeCountAt, ticksAt, rowsBase, indexSize, rowEntries, RowsIndexed}
@@ -160,15 +160,6 @@ module _ (f index : List ℕ) (h : Indexed f index) where
   unfolding sumTo
   outcomes-follow r = omega arith
 
-  -- where the outcomes of row r begin and end
-  part-from : (r : ℕ) → r < problemOf f .rows → getD index (rowsBase + 2 * r) 0 ≡ outcomeAt f r
-  part-from r l = h .outcomes-at r (omega arith)
-
-  part-to : (r : ℕ) → r < problemOf f .rows → getD index (rowsBase + 2 * r + 2) 0 ≡ outcomeAt f r + 4 * outcomeCountOf f r
-  part-to r l =
-      let e : rowsBase + 2 * r + 2 ≡ rowsBase + 2 * suc r = omega arith in
-      rw e (h .outcomes-at (suc r) l ∙ outcomes-follow r)
-
   outcomes-in : (r : ℕ) → r < problemOf f .rows → outcomeAt f r + 4 * outcomeCountOf f r ≤ length f
   unfolding problemOf
   outcomes-in = h .laid .outcomes-in
@@ -176,8 +167,8 @@ module _ (f index : List ℕ) (h : Indexed f index) where
   -- what question 10 asks of the index
   pub parts-there : (r : ℕ) → r < problemOf f .rows → PartThere f index r
   parts-there r l =
-      let from = part-from r l in
-      let to = part-to r l in
+      let from = part-begins f index (problemOf f .rows) (h .outcomes-at) outcomes-follow r l in
+      let to = part-ends f index (problemOf f .rows) (h .outcomes-at) outcomes-follow r l in
       record {
         ordered = omega arith;
         inside = omega (arith, outcomes-in r l);
@@ -187,8 +178,8 @@ module _ (f index : List ℕ) (h : Indexed f index) where
   pub outcomes-of-part : (r : ℕ) → r < problemOf f .rows → outcomesIn (partOf f index r) ≡ problemOf f .outcomes r
   unfolding problemOf
   outcomes-of-part r l =
-      let from = part-from r l in
-      let to = part-to r l in
+      let from = part-begins f index (problemOf f .rows) (h .outcomes-at) outcomes-follow r l in
+      let to = part-ends f index (problemOf f .rows) (h .outcomes-at) outcomes-follow r l in
       rw (to, from) (part-reads f (outcomeAt f r) (outcomeAt f r + 4 * outcomeCountOf f r) (outcomeCountOf f r) refl (outcomes-in r l))
 
   -- question 10 of the parts is question 10 of the problem

@@ -61,14 +61,23 @@ partFrom index r = getD index (rowsBase + 2 * r) 0
 abbrev pub partTo : List ℕ → ℕ → ℕ
 partTo index r = getD index (rowsBase + 2 * r + 2) 0
 
+module _ (f index : List ℕ) (rows : ℕ) (held : (r : ℕ) → r ≤ rows → getD index (rowsBase + 2 * r) 0 ≡ outcomeAt f r)
+    (follow : (r : ℕ) → outcomeAt f (suc r) ≡ outcomeAt f r + 4 * outcomeCountOf f r) (r : ℕ) (l : r < rows) where
+  pub part-begins : partFrom index r ≡ outcomeAt f r
+  part-begins = held r (omega arith)
+
+  pub part-ends : partTo index r ≡ outcomeAt f r + 4 * outcomeCountOf f r
+  part-ends =
+      let z : rowsBase + 2 * r + 2 ≡ rowsBase + 2 * suc r = omega arith in
+      rw z (held (suc r) l ∙ follow r)
+
 module _ (f index : List ℕ) (entries r : ℕ) (h : RowReady f index entries r) where
   pub part-from : partFrom index r ≡ outcomeAt f r
-  part-from = h .ready .outcomes-at r (omega arith)
+  part-from = part-begins f index (problemOf f .rows) (h .ready .outcomes-at) (h .ready .outcomes-follow) r (h .row-there)
 
   pub part-to : partTo index r ≡ partFrom index r + 4 * outcomeCountOf f r
   part-to =
-      let z : rowsBase + 2 * r + 2 ≡ rowsBase + 2 * suc r = omega arith in
-      rw (z, part-from) (h .ready .outcomes-at (suc r) (omega arith) ∙ h .ready .outcomes-follow r)
+      rw part-from (part-ends f index (problemOf f .rows) (h .ready .outcomes-at) (h .ready .outcomes-follow) r (h .row-there))
 
   pub part-inside : partTo index r ≤ length f
   part-inside = omega (arith, part-from, part-to, h .ready .outcomes-follow r, h .ready .outcomes-there r (h .row-there))

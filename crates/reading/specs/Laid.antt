@@ -35,4 +35,5 @@ pub record Set (f : List ℕ) (start tolerance penalty : ℕ) : Type 0 where
 -- the first setting that question 4 refuses, or 3
 abbrev pub SettingAnswer : ℕ → ℕ → ℕ → ℕ → ℕ → Type 0
 SettingAnswer start states tolerance penalty r =
-    (p : Problem) → p .start ≡ start → p .states ≡ states → p .tolerance ≡ tolerance → p .penalty ≡ penalty → settingQuestions p ≡ ask 4 r (leb 3 r)
+    (p : Problem) → p .start ≡ start → p .states ≡ states → p .tolerance ≡ tolerance → p .penalty ≡ penalty
+    → settingQuestions p ≡ ask 4 r (leb 3 r)

@@ -16,7 +16,8 @@ ghost use Rattle.model.specs.Questions.{costObeys};
 ghost use Rattle.model.specs.Rounds.{fillTo};
 ghost use Rattle.model.specs.Search.{first, sumTo};
 ghost use Rattle.model.specs.Sections.{secondsOn};
-ghost use Rattle.reading.specs.Tests.{rowCountAt, rowTest, outcomeCountAt, ticksAt, rowEntries, rowsBase, partOf, outcomesIn, outcomesTest, PartThere, RowsIndexed};
+ghost use Rattle.reading.specs.Tests.{rowCountAt, rowTest, RowsIndexed};
+ghost use Rattle.reading.specs.Tests.{partOf, outcomesIn, outcomesTest, PartThere};
 
 // Entry s, for s up to the number of states: the first row of state s. Entry ROWS + 2 r, for r up to the number of rows: where
 // the outcomes of row r begin. Entry ROWS + 2 r + 1: the cost of row r in ticks.

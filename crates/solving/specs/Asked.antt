@@ -11,7 +11,7 @@ use Rattle.model.specs.Value.{rowValue, entry}
 use Rattle.model.specs.Walk.{In, walk}
 use Rattle.model.specs.Rounds.{Found, Machine, Ending, solved, spent, scanFrom, backups, round, runFrom}
 use Rattle.guarantee.specs.Formed.{WellFormed}
-use Rattle.guarantee.specs.Sound.{Sound}
+use Rattle.guarantee.specs.Sound.{SoundTables}
 use Rattle.guarantee.specs.Backups.{Open}
 use Rattle.reading.specs.Ready.{Ready}
 use Rattle.walking.specs.Trails.{Walkable}
@@ -56,10 +56,6 @@ pub record ScanLeft (f index values : List ℕ) (prev end : ℕ) (w : Found) (a 
   pub left : scanFrom (problemOf f) (entry values) prev r (end - r) a ≡ w
   pub room : w .count < countBound
   pub fine : over ≡ false
-
--- tables that are sound, whatever the walk list and the counts are
-abbrev pub SoundTables : Problem → List ℕ → List ℕ → List ℕ → Type 0
-SoundTables p values picks remembered = Sound p (machine values picks remembered [] 0 true)
 
 -- what backing up stands on
 pub record Backable (f index values picks remembered : List ℕ) : Type 0 where

@@ -18,46 +18,17 @@ use Rattle.model.specs.Rounds.{Found, Machine, scan, raiseOn, settle, scanOf, b
 use Rattle.guarantee.specs.Sound.{Sound, evaluation-fits, backup-sound}
 use Rattle.guarantee.specs.Backups.{Open}
 use Rattle.guarantee.specs.Evaluations.{backups-count}
-use Rattle.solving.specs.Asked.{countBound, found, machine, Scannable, SoundTables, Backable, BackLeft}
-
--- soundness looks at the three tables only
-module _ (p : Problem) where
-  pub tables-sound : (m : Machine) → Sound p m → SoundTables p (m .values) (m .picks) (m .remembered)
-  tables-sound m h =
-      record {
-        values-length = h .values-length;
-        picks-length = h .picks-length;
-        remembered-length = h .remembered-length;
-        goal-values = h .goal-values;
-        high = h .high;
-        under = h .under;
-        memory = h .memory;
-        picked = h .picked;
-        goal-picks = h .goal-picks;
-      }
-
-  pub sound-tables : (m : Machine) → SoundTables p (m .values) (m .picks) (m .remembered) → Sound p m
-  sound-tables m h =
-      record {
-        values-length = h .values-length;
-        picks-length = h .picks-length;
-        remembered-length = h .remembered-length;
-        goal-values = h .goal-values;
-        high = h .high;
-        under = h .under;
-        memory = h .memory;
-        picked = h .picked;
-        goal-picks = h .goal-picks;
-      }
+use Rattle.solving.specs.Asked.{countBound, found, machine, Scannable, Backable, BackLeft}
 
 -- in sound tables every row value fits
-pub backable-scannable : (f index values picks remembered : List ℕ) → Backable f index values picks remembered → Scannable f index values remembered
+pub backable-scannable
+    : (f index values picks remembered : List ℕ) → Backable f index values picks remembered → Scannable f index values remembered
 backable-scannable f index values picks remembered h =
     record {
       ready = h .ready;
       values-long = h .sound .values-length;
       remembered-long = h .sound .remembered-length;
-      fits = evaluation-fits (problemOf f) (h .formed) _ (h .sound);
+      fits = evaluation-fits (problemOf f) (h .formed) (machine values picks remembered [] 0 false) (h .sound);
     }
 
 -- "Set best to 1000 × D and the pick to giving up": the scan begins so where `give` is what giving up costs
@@ -134,7 +105,7 @@ module _ (f index list : List ℕ) (n e : ℕ) (w m : Machine) (over : Bool) (i 
             record {
               ready = h .backable .ready;
               formed = h .backable .formed;
-              sound = tables-sound (problemOf f) m′ (rw same sound);
+              sound = rw same sound;
             };
         listed = h .listed;
         left = rw same (next-left l);
@@ -149,7 +120,7 @@ module _ (f index list : List ℕ) (n e : ℕ) (w m : Machine) (over : Bool) (i 
       sound : Sound (problemOf f) (backup (problemOf f) e (getD list i 0) m)
       sound =
           backup-sound (problemOf f) (h .backable .formed) (getD list i 0) m (o .state)
-          (sound-tables (problemOf f) m (h .backable .sound)) e (o .no-goal)
+          (h .backable .sound) e (o .no-goal)
 
   pub all-backed : n ≤ i → m ≡ w
   unfolding L backups

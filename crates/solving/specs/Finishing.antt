@@ -50,7 +50,9 @@ module _ (f : List ℕ) (at1 states at2 rows at3 outcomes : ℕ) (l : LaidOut f 
   pub settings-there : 14 ≤ length f
   settings-there = omega (arith, l .states-there, l .settings-there)
 
-  pub estimates-are : (values : List ℕ) → fillTo (λ s. u32At f (at1 + 6 * s)) values states ≡ fillTo (problemOf f .estimate) values (problemOf f .states)
+  pub estimates-are
+      : (values : List ℕ)
+      → fillTo (λ s. u32At f (at1 + 6 * s)) values states ≡ fillTo (problemOf f .estimate) values (problemOf f .states)
   unfolding problemOf
   estimates-are values = rw (l .states-at, l .states-count) refl
 

@@ -20,7 +20,6 @@ use Rattle.guarantee.specs.Evaluations.{round-count}
 use Rattle.guarantee.specs.Solved.{round-still}
 use Rattle.walking.specs.Trails.{Walked}
 use Rattle.solving.specs.Asked.{countBound, machine, ending, Backable, Listed, Runnable, Rounded, RunLeft}
-use Rattle.solving.specs.Backing.{tables-sound, sound-tables}
 
 -- what stays beyond a place stays beyond every later one
 pub later-beyond : (k n : ℕ) (l l′ : List ℕ) → k ≤ n → drop k l′ ≡ drop k l → drop n l′ ≡ drop n l
@@ -120,7 +119,7 @@ module _ (f index : List ℕ) (e budget : ℕ) (w : Ending) (list₀ values pick
         subst
         (Sound (problemOf f))
         (sym done)
-        (round-sound (problemOf f) (h .runnable .walkable .formed) e before (sound-tables (problemOf f) before (h .runnable .sound)))
+        (round-sound (problemOf f) (h .runnable .walkable .formed) e before (h .runnable .sound))
 
     pub run-goes-on
         : moved′ ≡ true → length list′ ≡ length list
@@ -130,7 +129,7 @@ module _ (f index : List ℕ) (e budget : ℕ) (w : Ending) (list₀ values pick
           runnable =
               record {
                 walkable = h .runnable .walkable;
-                sound = tables-sound (problemOf f) after after-sound;
+                sound = after-sound;
                 list-long = omega (arith, long, h .runnable .list-long);
               };
           within = omega arith;
@@ -155,8 +154,7 @@ module _ (f index : List ℕ) (e budget : ℕ) (w : Ending) (list₀ values pick
     pub run-marks : moved′ ≡ false → marks′ ≡ walk (problemOf f) (entry picks′) .marks
     run-marks still =
         let quiet : round (problemOf f) e before .moved ≡ false = ap (λ (x : Machine). x .moved) (sym done) ∙ still in
-        let sound = sound-tables (problemOf f) before (h .runnable .sound) in
-        let kept = round-still (problemOf f) (h .runnable .walkable .formed) e before sound quiet .picks in
+        let kept = round-still (problemOf f) (h .runnable .walkable .formed) e before (h .runnable .sound) quiet .picks in
         rw (ap (λ (x : Machine). x .picks) done ∙ kept) (r .marks)
 
   pub run-spent : budget ≤ rounds → w ≡ ending false rounds (machine values picks remembered (take listed list) count true)

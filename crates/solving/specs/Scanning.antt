@@ -96,7 +96,8 @@ pub record StateRows (p : Problem) (s first end : ℕ) : Type 0 where
   pub few : end ≤ maxRows
 
 pub state-rows
-    : (f index : List ℕ) (s : ℕ) → Ready f index → s < problemOf f .states → StateRows (problemOf f) s (getD index s 0) (getD index (s + 1) 0)
+    : (f index : List ℕ) (s : ℕ) → Ready f index → s < problemOf f .states
+    → StateRows (problemOf f) s (getD index s 0) (getD index (s + 1) 0)
 state-rows f index s h l =
     let low : getD index s 0 ≡ problemOf f .firstRow s = h .first-row s (omega arith) in
     let high : getD index (s + 1) 0 ≡ endRow (problemOf f) s = h .first-row (s + 1) (omega arith) ∙ rw add-one (h .rows-follow s) in

@@ -97,11 +97,13 @@ returns-2 c =
 
 least-cost-requires : tie.Need-least-cost-requires
 least-cost-requires c κs =
-    (c .before .before .before .before .before .before .before .before .before .before .before .before .before .before .before .before .pre .walkable, costed (c .before .before .before .before), omega (arith, c .before .before .before .before .before .before .before .before .before .before .before .before .before .before .before .before .pre .states-are), walked-start _ _ (c .before .before .before .before .before .before .before .before .before .before .before .before .before .before .before .before .args .picks .now) _ (c .before .before .before .before .before .before .before .before .before .before .before .before .before .before .before .before .pre .walkable) (c .before .before .before .before .before .before .before .before .walk .ensures .marks))
+    let start = walked-start _ _ (c .before .before .before .before .before .before .before .before .before .before .before .before .before .before .before .before .args .picks .now) _ (c .before .before .before .before .before .before .before .before .before .before .before .before .before .before .before .before .pre .walkable) (c .before .before .before .before .before .before .before .before .walk .ensures .marks) in
+    (c .before .before .before .before .before .before .before .before .before .before .before .before .before .before .before .before .pre .walkable, costed (c .before .before .before .before), omega (arith, c .before .before .before .before .before .before .before .before .before .before .before .before .before .before .before .before .pre .states-are), start)
 
 returns-3 : tie.Need-returns-3
 returns-3 c =
-    let least = walked-least _ _ (c .before .before .before .before .before .before .before .before .before .before .before .before .before .before .before .before .before .args .picks .now) _ (c .before .before .before .before .before .before .before .before .before .before .before .before .before .before .before .before .before .pre .walkable) (c .before .before .before .before .before .before .before .before .before .walk .ensures .marks) _ _ (c .before .before .before .before .before .before .before .before .before .before .before .before .before .before .before .before .before .pre .states-are) (c .least-cost .ensures) in
+    let least = walked-least _ _ (c .before .before .before .before .before .before .before .before .before .before .before .before .before .before .before .before .before .args .picks .now) _ (c .before .before .before .before .before .before .before .before .before .before .before .before .before .before .before .before .before .pre .walkable) (c .before .before .before .before .before .before .before .before .before .walk .ensures .marks) _ _ (c .before .before .before .before .before .before .before .before .before .before .before .before .before .before .before .before .before .pre .states-are)
+    (c .least-cost .ensures) in
     pick-accept _ _ _ _ _ (c .before .before .before .before .before .before .before .before .before .before .before .before .before .before .before .before .before .pre) _ (c .before .before .before .before .before .before .before .before .before .walk .ensures .marks) _ (c .before .before .before .before .before .before .stray-state .ensures) (c .before .before .before .before .before .if1 .left) _ (c .before .before .before .slack-state .ensures)
     _ least (c .before .before .if2 .left)
 

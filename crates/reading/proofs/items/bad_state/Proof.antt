@@ -38,7 +38,8 @@ loop-less : tie.Need-loop-less Inv-loop μ-loop
 loop-less c = omega arith
 
 loop-again : tie.Need-loop-again Inv-loop μ-loop
-loop-again c = (omega arith, c .before .before .before .loop .inv .1 ∙ search-goes-on _ _ _ (c .before .before .loop-test .taken) (sym (c .before .state-obeys .ensures) ∙ not-false _ (c .if1 .left)))
+loop-again c =
+    (omega arith, c .before .before .before .loop .inv .1 ∙ search-goes-on _ _ _ (c .before .before .loop-test .taken) (sym (c .before .state-obeys .ensures) ∙ not-false _ (c .if1 .left)))
 
 returns-2 : tie.Need-returns-2 Inv-loop μ-loop
 returns-2 c = sym (c .before .loop .inv .1 ∙ search-ends _ _ _ (c .before .loop .inv .0) (c .loop-test .left))

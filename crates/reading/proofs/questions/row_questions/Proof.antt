@@ -59,7 +59,8 @@ returns-4 c =
     let y8 = eight-yes _ _ _ _ _ _ _ p _ (c .before .before .before .before .before .bad-row .ensures) (c .before .before .before .before .if2 .left) in
     let y9 = nine-yes _ _ _ _ _ _ _ p _ (c .before .before .index-rows .ensures .sum) (c .if3 .left) in
     rows-pass _ _ _ _ _ _ _ p _ y7 y8 y9
-    (index-holds _ _ _ _ _ _ _ p (c .before .before .before .before .before .before .before .before .before .before .args .index .now) _ _ _ _ (λ i. omega (arith, c .before .before .before .before .before .before .before .before .before .shared-slice-known .given i)) (c .before .before .before .before .before .before .before .before .before .before .pre .1) (c .before .before .before .before .before .before .before .index-states .ensures .1) (c .before .before .before .before .before .before .before .index-states .ensures .0)
+    (index-holds _ _ _ _ _ _ _ p (c .before .before .before .before .before .before .before .before .before .before .args .index .now) _ _ _ _ (λ i. omega (arith, c .before .before .before .before .before .before .before .before .before .shared-slice-known .given i))
+    (c .before .before .before .before .before .before .before .before .before .before .pre .1) (c .before .before .before .before .before .before .before .index-states .ensures .1) (c .before .before .before .before .before .before .before .index-states .ensures .0)
     (c .before .before .before .before .before .before .if1 .left) (c .before .before .index-rows .ensures) (c .if3 .left))
 
 pub row-questions-spec : {M : Type 1} → statement M

@@ -137,7 +137,8 @@ part-result-end-3 c =
 returns-3 : tie.Need-returns-3
 returns-3 c =
     let y = c .before .before .before .before .before .before .before .before .questions .ensures .ready (ap verdictOf (c .before .before .before .before .before .before .enum-told .given .1)) in
-    stretch-is _ _ _ _ _ _ _ _ (c .before .before .before .before .before .layout-of .ensures) y _ (c .before .before .before .if1 .left) (sym (c .before .before .before .before .before .before .before .before .questions .ensures .verdict) ∙ ap verdictOf (c .before .before .before .before .before .before .enum-told .given .1))
+    stretch-is _ _ _ _ _ _ _ _ (c .before .before .before .before .before .layout-of .ensures) y _ (c .before .before .before .if1 .left)
+    (sym (c .before .before .before .before .before .before .before .before .questions .ensures .verdict) ∙ ap verdictOf (c .before .before .before .before .before .before .enum-told .given .1))
 
 pub rows-of-spec : {M : Type 1} → statement M
 rows-of-spec =

@@ -3,7 +3,8 @@
 use lib.ListN.{length-replicate}
 use Rattle.guarantee.specs.Tables.{fill-length}
 use Prim.Native.Nat.{_≤_, _<_}
-use Rattle.reading.proofs.Asking.{known, states-are, rows-are, ten-no, ten-yes, eleven-no, eleven-yes, values-stop-10, values-stop-11, values-pass}
+use Rattle.reading.proofs.Asking.{known, states-are, rows-are, ten-no, ten-yes, eleven-no, eleven-yes}
+use Rattle.reading.proofs.Asking.{values-stop-10, values-stop-11, values-pass}
 use Rattle.reading.proofs.Indexing.{parts-there, ready}
 use borrow.Author.Needs.{needs}
 use native.Mathlib.Omega.{arith}
@@ -19,7 +20,9 @@ refused-requires : tie.Need-refused-requires
 refused-requires c κs = omega arith
 
 returns : tie.Need-returns
-returns c = rw (c .refused .ensures) (values-stop-10 _ _ _ _ _ _ _ _ (c .before .before .before .before .pre) _ (ten-no _ _ _ _ _ _ _ _ (c .before .before .before .before .pre) _ (c .before .before .bad-outcomes .ensures) (c .before .if1 .taken)))
+returns c =
+    let no-10 = ten-no _ _ _ _ _ _ _ _ (c .before .before .before .before .pre) _ (c .before .before .bad-outcomes .ensures) (c .before .if1 .taken) in
+    rw (c .refused .ensures) (values-stop-10 _ _ _ _ _ _ _ _ (c .before .before .before .before .pre) _ no-10)
 
 slice-aggregate-estimates : tie.Need-slice-aggregate-estimates
 slice-aggregate-estimates c = search needs

@@ -88,7 +88,8 @@ loop-less c = omega arith
 
 loop-again : tie.Need-loop-again Inv-loop μ-loop Inv-states μ-states
 loop-again c =
-    (omega arith, c .before .before .before .loop .inv .1, c .before .before .before .loop .inv .2 ∙ row-passes _ _ _ _ _ (c .before .before .loop-test .taken) (ltb-false _ _ (sym (c .before .undercuts .ensures) ∙ (c .if1 .left))))
+    let holds = ltb-false _ _ (sym (c .before .undercuts .ensures) ∙ (c .if1 .left)) in
+    (omega arith, c .before .before .before .loop .inv .1, c .before .before .before .loop .inv .2 ∙ row-passes _ _ _ _ _ (c .before .before .loop-test .taken) holds)
 
 add-s : tie.Need-add-s Inv-loop μ-loop Inv-states μ-states
 add-s c = omega arith
