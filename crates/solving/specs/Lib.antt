@@ -7,3 +7,4 @@ pub mod Solving
 pub mod Filling
 pub mod Finishing
 pub mod Promises
+pub mod Undoing

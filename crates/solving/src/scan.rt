@@ -3,7 +3,7 @@ use model::VALUE_BOUND;
 use reading::index::INDEX;
 use reading::value::row_value;
 ghost use mathlib.Core.Path.{_≡_};
-ghost use mathlib.Core.Bool.{false, _&&_};
+ghost use mathlib.Core.Bool.{true, false, _&&_};
 ghost use mathlib.Core.List.{List};
 ghost use Prim.Native.Nat.{ℕ, _+_, _-_, _≤_, _<_};
 ghost use lib.Dec.{leb, ltb};
@@ -13,6 +13,7 @@ ghost use Rattle.model.specs.Value.{entry};
 ghost use Rattle.model.specs.Rounds.{evaluate, considerIf, scanFrom};
 ghost use Rattle.model.specs.Rounds;
 ghost use Rattle.solving.specs.Asked.{countBound, found, Scannable};
+ghost use Rattle.solving.specs.Undoing.{noted, undone};
 
 // A scan so far: the least value, the pick, and the evaluations counted. Where the value of a row does not fit in 32 bits `over`
 // is set, the pick is that row, and best is 0, so that every later row is skipped.
@@ -29,6 +30,7 @@ pub const LOG: usize = 512;
 // Notes that row r remembered `old` before evaluation number `count`.
 fn note(log: &mut [u32; LOG], count: u64, r: usize, old: u32)
     requires { ⌜ r < 65536 ⌝ }
+    ensures { λ _. ⌜ now (log .exit) ≡ noted (now (log .entry)) count r old ⌝ }
 {
     let k = 2 * ((count % 256) as usize);
     log[k] = r as u32;
@@ -38,6 +40,7 @@ fn note(log: &mut [u32; LOG], count: u64, r: usize, old: u32)
 // Question 14: the value of row r does not fit.
 fn too_large(r: usize, a: Found) -> Found
     requires { ⌜ r < 65536 ⌝ }
+    ensures { λ b. ⌜ (b .best ≡ 0) × (b .pick ≡ r) × (b .count ≡ a .count) × (b .over ≡ true) ⌝ }
 {
     Found {
         best: 0,
@@ -204,6 +207,7 @@ pub fn scan(
 // Gives the rows evaluated from evaluation number `from` to `to` back what they remembered before, the last one first.
 pub fn undo(remembered: &mut [u32], log: &[u32; LOG], from: u64, to: u64)
     requires { ⌜ ((k : ℕ) → getD (now log) k 0 < length (now remembered)) ⌝ }
+    ensures { λ _. ⌜ now (remembered .exit) ≡ undone (now (log .entry)) from (to - from) (now (remembered .entry)) ⌝ }
 {
     let mut count = to;
     while from < count {

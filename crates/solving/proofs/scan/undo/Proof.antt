@@ -1,21 +1,24 @@
--- `undo` stays within the tables and ends: the evaluations that are left fall.
+-- `undo` gives back what the rows remembered: what is left to undo gives the same as the whole.
 -- Made by `places make` from answers/scan/undo.ans: edit that file, and not this one.
-use mathlib.Core.Path.{_≡_}
+use mathlib.Core.Path.{_≡_, refl, sym, _∙_}
 use Prim.Native.Nat.{_≤_, _-_, _*_, _%_}
 use lib.ListN.{length, length-set}
+use Rattle.solving.specs.Undoing.{undone, undo-one, undo-none}
 use borrow.Author.Needs.{needs}
 use native.Mathlib.Omega.{arith}
 use Rattle.solving.proofs.scan.undo.Statement.{statement}
 use Rattle.solving.proofs.scan.undo.Tie as tie
 
 abbrev Inv-loop : tie.InvT-loop
-Inv-loop remembered₀ log from to count₀ remembered count = (count ≤ to) × (length remembered ≡ length remembered₀)
+Inv-loop remembered₀ log from to count₀ remembered count =
+    (count ≤ to) × (length remembered ≡ length remembered₀)
+    × (undone log from (to - from) remembered₀ ≡ undone log from (count - from) remembered)
 
 abbrev μ-loop : tie.MeasureT-loop
 μ-loop remembered₀ log from to count₀ remembered count = count
 
 loop-holds : tie.Need-loop-holds Inv-loop μ-loop
-loop-holds c = search needs
+loop-holds c = (omega arith, refl, refl)
 
 sub-count : tie.Need-sub-count Inv-loop μ-loop
 sub-count c = omega arith
@@ -51,13 +54,14 @@ loop-less : tie.Need-loop-less Inv-loop μ-loop
 loop-less c = omega arith
 
 loop-again : tie.Need-loop-again Inv-loop μ-loop
-loop-again c = (omega arith, simp length-set (c .before .before .before .loop .inv .1))
+loop-again c =
+    (omega arith, simp length-set (c .before .before .before .loop .inv .1), c .before .before .before .loop .inv .2 ∙ undo-one _ _ _ _ (c .before .before .loop-test .taken))
 
 same-length : tie.Need-same-length Inv-loop μ-loop
 same-length c = c .before .loop .inv .1
 
 returns : tie.Need-returns Inv-loop μ-loop
-returns c = search needs
+returns c = sym (c .before .loop .inv .2 ∙ undo-none _ _ _ _ (c .loop-test .left))
 
 pub undo-spec : {M : Type 1} → statement M
 undo-spec =
