@@ -1,17 +1,18 @@
 // The program `audit`: audits a problem file with a values file and a picks file, and prints the answer.
 use libc::STDERR_FILENO;
 use libc::STDOUT_FILENO;
+use model::MAX_STATES;
 use printing::files::fail;
 use printing::files::read_named;
 
-// Room for 1,024 entries of 4 and of 2 bytes, and for a line.
-const VALUES: usize = 4096;
+// Room for the bytes of two tables, 4 and 2 for each state, and for a line of at most 73 bytes.
+const VALUES: usize = 4 * MAX_STATES;
 
-const PICKS: usize = 2048;
+const PICKS: usize = 2 * MAX_STATES;
 
 const LINE: usize = 128;
 
-// A longer file gets the same answer as its first 65,536 bytes, and a longer table the same as its first 1,024 entries.
+// A longer file gets the same answer as its first 65,536 bytes, and a longer table the same as its entries of states.
 fn audit_named() {
     let mut file = io::large_buffer();
     let a = read_named(b"audit", 1, &mut file);

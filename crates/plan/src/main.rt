@@ -10,17 +10,19 @@ use printing::files::read_whole;
 use printing::tables::put_picks;
 use printing::tables::put_values;
 use printing::text::put;
+ghost use mathlib.Core.Path.{_≡_};
 ghost use mathlib.Core.List.{_++_};
 ghost use Rattle.model.specs.Lines.{codes};
 ghost use Rattle.printing.specs.Texts.{Holds};
+ghost use Rattle.plan.specs.Names.{sameName, clashing};
 
-// Room for the text of a plan, whatever the file: the first line and one for each of 1,024 states.
-const ROOM: usize = 32768;
+// Room for the text of a plan, whatever the file: 73 bytes for the first line and 22 for each state.
+const ROOM: usize = 32 * MAX_STATES;
 
-// Room for the bytes of a table: 1,024 entries of 4.
-const TABLE: usize = 4096;
+// Room for the bytes of a table: 4 for each state.
+const TABLE: usize = 4 * MAX_STATES;
 
-// Room for the longest argument that is read and `.part`.
+// Room for the longest argument that is read, 4,096 bytes, and `.part`.
 const PART: usize = 4200;
 
 fn complain(text: &[u8]) {
@@ -81,7 +83,9 @@ fn part_of(name: &[u8], part: &mut [u8]) -> usize
 }
 
 // Whether two names are the same.
-fn are_equal(a: &[u8], b: &[u8]) -> bool {
+fn are_equal(a: &[u8], b: &[u8]) -> bool
+    ensures { λ r. ⌜ r ≡ sameName (now (a .entry)) (now (b .entry)) ⌝ }
+{
     if a.len() != b.len() {
         return false;
     }
@@ -96,19 +100,21 @@ fn are_equal(a: &[u8], b: &[u8]) -> bool {
 }
 
 // Whether one of two tables would land on the other, or on the other's part file.
-fn do_clash(name: &[u8], part: &[u8], other: &[u8], other_part: &[u8]) -> bool {
-    if are_equal(name, other) {
+fn do_clash(name: &[u8], part: &[u8], name2: &[u8], part2: &[u8]) -> bool
+    ensures { λ r. ⌜ r ≡ clashing (now (name .entry)) (now (part .entry)) (now (name2 .entry)) (now (part2 .entry)) ⌝ }
+{
+    if are_equal(name, name2) {
         return true;
     }
-    if are_equal(name, other_part) {
+    if are_equal(name, part2) {
         return true;
     }
-    are_equal(part, other)
+    are_equal(part, name2)
 }
 
 // Whether both names can take a table; where one cannot, that is said. Part files of an earlier run are removed.
-fn are_ready(name: &[u8], part: &[u8], other: &[u8], other_part: &[u8]) -> bool {
-    if do_clash(name, part, other, other_part) {
+fn are_ready(name: &[u8], part: &[u8], name2: &[u8], part2: &[u8]) -> bool {
+    if do_clash(name, part, name2, part2) {
         complain(b"plan: VALUES and PICKS need two names\n");
         return false;
     }
@@ -116,12 +122,12 @@ fn are_ready(name: &[u8], part: &[u8], other: &[u8], other_part: &[u8]) -> bool 
         fail(b"plan", name);
         return false;
     }
-    if !is_free(other) {
-        fail(b"plan", other);
+    if !is_free(name2) {
+        fail(b"plan", name2);
         return false;
     }
     os::unlink(part);
-    os::unlink(other_part);
+    os::unlink(part2);
     true
 }
 

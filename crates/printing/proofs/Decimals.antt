@@ -1,15 +1,11 @@
 -- The decimal of the model is what `io::decimal` puts: the fewest digits in base 10 that hold the number.
 -- By induction on the fuel: a number below ten is one digit, and a longer one is the digits of n / 10 and the last digit.
-use mathlib.Core.Path.{_≡_, refl, sym, _∙_, ap}
-use Prim.Native.Nat.{ℕ, zero, suc, _+_, _-_, _*_, _/_, _%_, _^_, _≤_, _<_}
+use mathlib.Core.Path.{_≡_, refl}
+use Prim.Native.Nat.{ℕ, zero, suc, _-_, _*_, _/_, _%_, _^_, _≤_, _<_}
 use native.Mathlib.Omega.{arith}
 use native.Mathlib.Nat.{pow-suc}
-use mathlib.Core.Bool.{Bool, true, false, cond}
-use mathlib.Core.List.{List, [], _∷_, _++_}
-use lib.Dec.{ltb}
-use lib.ListN.{length, length-append}
 use borrow.Author.Tests.{lt-ltb, le-ltb}
-use Rattle.io.specs.Digits.{digits, Fewest, glyph}
+use Rattle.io.specs.Digits.{digits, Fewest}
 use Rattle.model.specs.Lines.{decimal, decimalFrom}
 
 pub ten-power : (k : ℕ) → 1 ≤ 10 ^ k

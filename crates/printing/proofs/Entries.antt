@@ -1,13 +1,13 @@
 -- Laws of table files: bytes are put entry after entry, and entries are read one after the other.
 use mathlib.Core.Path.{_≡_, refl, sym, _∙_, ap}
-use Prim.Native.Nat.{ℕ, zero, suc, _+_, _-_, _≤_, _<_}
-use native.Mathlib.Decide.{decLe}
+use Prim.Native.Nat.{ℕ, _+_, _-_, _≤_, _<_}
 use native.Mathlib.Omega.{arith}
 use native.Mathlib.Numerals.{add-one}
 use mathlib.Core.List.{List, [], _∷_, _++_, append-assoc, append-nil}
-use lib.ListN.{length, getD, set, take, length-set, length-append}
-use lib.Seq.{take-suc, take-suc-set, take-all, take-append-le, take-length, length-take-le}
+use lib.ListN.{length, getD, set, take, length-set}
+use lib.Seq.{take-suc, take-suc-set, take-all}
 use Rattle.model.specs.TableFiles.{numberBytes, tableBytes, listTo}
+use Rattle.guarantee.specs.TableFiles.{list-length, list-front}
 use Rattle.printing.specs.Texts.{Holds}
 use Rattle.printing.proofs.Putting.{more, stands}
 
@@ -36,27 +36,12 @@ module _ (width : ℕ) (table : List ℕ) where
       rw (add-one i, take-suc table i 0 l, bytes-append width (take i table) (getD table i 0 ∷ []), bytes-one width (getD table i 0))
       (more out out′ (tableBytes width (take i table)) (numberBytes width (getD table i 0)) to to′ long h k)
 
-  pub bytes-end : (out : List ℕ) (to i : ℕ) → length table ≤ i → Holds out to (tableBytes width (take i table)) → Holds out to (tableBytes width table)
+  pub bytes-end
+      : (out : List ℕ) (to i : ℕ) → length table ≤ i → Holds out to (tableBytes width (take i table))
+      → Holds out to (tableBytes width table)
   bytes-end out to i l h = rw (take-all i table l) at h
 
 -- entries
-
-list-length : (g : ℕ → ℕ) (k : ℕ) → length (listTo g k) ≡ k
-unfolding listTo
-list-length g zero = refl
-list-length g (suc k) = length-append (listTo g k) (g k ∷ []) ∙ omega (arith, list-length g k)
-
--- a front of a list of values is a shorter list
-pub list-front : (g : ℕ → ℕ) (n k : ℕ) → n ≤ k → take n (listTo g k) ≡ listTo g n
-unfolding listTo
-list-front g n zero h = let z : n ≡ 0 = omega arith in rw z refl
-list-front g n (suc k) h = go (decLe n k) (list-front g n k)
-  where
-    go : Dec (n ≤ k) → (n ≤ k → take n (listTo g k) ≡ listTo g n) → take n (listTo g k ++ (g k ∷ [])) ≡ listTo g n
-    go (yes l) ih = take-append-le n (listTo g k) (g k ∷ []) (omega (arith, list-length g k)) ∙ ih l
-    go (no l) ih =
-        let e : n ≡ suc k = omega arith in
-        rw e (take-all (suc k) (listTo g k ++ (g k ∷ [])) (omega (arith, list-length g (suc k))))
 
 -- the loop that reads k of n entries into a table
 pub record Read (g : ℕ → ℕ) (n : ℕ) (table₀ table : List ℕ) (k : ℕ) : Type 0 where

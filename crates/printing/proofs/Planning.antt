@@ -10,16 +10,16 @@ use lib.Seq.{length-take-le}
 use Rattle.model.specs.Audit.{audit}
 use Rattle.model.specs.Limits.{maxStates}
 use Rattle.model.specs.Lines.{runStates, runText, planText}
-use Rattle.model.specs.Problem.{Problem}
 use Rattle.model.specs.Questions.{passes, fileQuestions, layoutQuestions}
-use Rattle.model.specs.Sections.{problemOf, statesAt}
+use Rattle.model.specs.Sections.{problemOf}
 use Rattle.model.specs.Solution.{Answer, solved, spent, refused, Tables, Solution, solution}
+use Rattle.guarantee.specs.Prefixes.{audit-tables-front}
 use Rattle.guarantee.specs.Searches.{then-first}
 use Rattle.guarantee.specs.Solutions.{Told, turned-down, ran, told, lent-long}
 use Rattle.solving.specs.Solving.{Leaves, tables}
 use Rattle.printing.specs.Plans.{Solves, Plans, planOf, planRounds}
-use Rattle.printing.specs.Texts.{Holds}
-use Rattle.printing.proofs.Prefixes.{audit-tables-front}
+use Rattle.printing.specs.Texts.{Holds, Brief}
+use Rattle.printing.proofs.Lengths.{uncut}
 use Rattle.printing.proofs.Putting.{same}
 
 module _ (f : List ℕ) (a : Answer) (s : Solves f a) where
@@ -88,13 +88,19 @@ text-is n s a values picks remembered walk k h e l =
 pub plans
     : (f values picks values′ picks′ remembered′ walk′ out : List ℕ) (a : Answer) (size k : ℕ)
     → Leaves a (tables values′ picks′ remembered′ walk′) (planOf f values picks) → k ≡ runStates a (problemOf f .states)
-    → length values′ ≡ length values → length picks′ ≡ length picks → k ≤ length walk′
+    → length values′ ≡ length values → length picks′ ≡ length picks → length walk′ ≡ maxStates → k ≤ length walk′
     → Holds out size (runText a values′ picks′ (take k walk′) (length (take k walk′)))
+    → Brief (runText a values′ picks′ (take k walk′) (length (take k walk′))) (length (take k walk′))
     → Plans f values picks values′ picks′ out size k
-plans f values picks values′ picks′ remembered′ walk′ out a size k h e lv lp lw text =
+plans f values picks values′ picks′ remembered′ walk′ out a size k h e lv lp most lw text short =
     let room = run-room f planRounds _ a k (h .answer) e in
+    let is = text-is (problemOf f .states) (planOf f values picks) a values′ picks′ remembered′ walk′ k h e lw in
+    let size-is = length-take-le k walk′ lw in
+    let fits = rw is at (short (omega (arith, size-is, most))) in
+    let put = same out _ _ size is text in
     record {
-      text = same out _ _ size (text-is (problemOf f .states) (planOf f values picks) a values′ picks′ remembered′ walk′ k h e lw) text;
+      text = put;
+      whole = λ l. uncut out (planText (problemOf f .states) (planOf f values picks)) size put (omega (arith, fits, size-is, most, lw));
       values-are = ap (λ t. t .values) (h .left);
       picks-are = ap (λ t. t .picks) (h .left);
       states-are = rw (← h .answer) e;

@@ -6,7 +6,7 @@ use native.Mathlib.Omega.{arith}
 use native.Mathlib.Numerals.{add-one}
 use mathlib.Core.List.{List, [], _∷_, _++_, append-assoc, append-nil}
 use lib.ListN.{length, getD, set, take, length-set, length-append}
-use lib.Seq.{take-suc, take-suc-set, take-all, take-append-add, length-take-le, take-nil, take-length}
+use lib.Seq.{take-suc, take-suc-set, take-all, take-append-add, length-take-le}
 use Rattle.printing.specs.Texts.{Holds}
 
 pub cut-again : (n : ℕ) (x y : List ℕ) → take n (take n x ++ y) ≡ take n (x ++ y)

@@ -1,13 +1,13 @@
 -- What planning a file promises: the text and the tables of the solution of document 01, with 1,000,000 rounds.
 use mathlib.Core.Path.{_≡_}
-use Prim.Native.Nat.{ℕ, _≤_}
+use Prim.Native.Nat.{ℕ, _+_, _*_, _≤_}
 use mathlib.Core.List.{List}
-use lib.ListN.{length, replicate}
+use lib.ListN.{length, replicate, take}
 use Rattle.model.specs.Limits.{maxStates, maxRows, listEnd}
 use Rattle.model.specs.Lines.{planText, runStates}
 use Rattle.model.specs.Sections.{problemOf}
 use Rattle.model.specs.Solution.{Answer, Tables, Solution, solution}
-use Rattle.printing.specs.Texts.{Holds}
+use Rattle.printing.specs.Texts.{Holds, lineMost, stateMost}
 
 -- an answer is that of a file, with some budget and some lent tables
 pub record Solves (f : List ℕ) (a : Answer) : Type 0 where
@@ -25,9 +25,15 @@ planOf f values picks =
     solution f planRounds
     (record { values = values; picks = picks; remembered = replicate maxRows 0; walk-list = replicate maxStates listEnd })
 
--- the text stands in `out`, the tables are those of the solution; as many states as are told lie within the tables
+-- room for the text of every file
+abbrev pub planRoom : ℕ
+planRoom = lineMost + stateMost * maxStates
+
+-- the text stands in `out`, uncut where `out` has room for every text; the tables are those of the solution, and as many states as are
+-- told lie within them
 pub record Plans (f values picks values′ picks′ out : List ℕ) (size states : ℕ) : Type 0 where
   pub text : Holds out size (planText (problemOf f .states) (planOf f values picks))
+  pub whole : planRoom ≤ length out → take size out ≡ planText (problemOf f .states) (planOf f values picks)
   pub values-are : values′ ≡ planOf f values picks .tables .values
   pub picks-are : picks′ ≡ planOf f values picks .tables .picks
   pub states-are : states ≡ runStates (planOf f values picks .answer) (problemOf f .states)

@@ -13,14 +13,15 @@ use model::MAX_STATES;
 use model::SolveAnswer;
 use reading::layout::layout_of;
 ghost use mathlib.Core.Path.{_≡_};
-ghost use lib.ListN.{length};
+ghost use Prim.Native.Nat.{_≤_};
+ghost use lib.ListN.{length, take};
 ghost use Rattle.model.specs.Answers.{answerOf};
 ghost use Rattle.model.specs.Audit.{audit};
 ghost use Rattle.model.specs.Lines.{runStates, auditLine};
 ghost use Rattle.model.specs.Sections.{problemOf};
 ghost use Rattle.model.specs.TableFiles.{entries16, entries32};
 ghost use Rattle.printing.specs.Plans.{Solves, Plans};
-ghost use Rattle.printing.specs.Texts.{Holds};
+ghost use Rattle.printing.specs.Texts.{Holds, lineMost};
 
 // "runs up to 1,000,000 rounds"
 const ROUNDS: u64 = 1000000;
@@ -80,6 +81,10 @@ pub fn audit_line(file: &[u8], values: &[u8], picks: &[u8], out: &mut [u8]) -> u
         ⌜ Holds
         (now (out .exit)) r
         (auditLine (audit (now (file .entry)) (entries32 (now (values .entry))) (entries16 (now (picks .entry))))) ⌝ }
+    ensures whole { λ r.
+        ⌜ (lineMost ≤ length (now (out .exit))
+        → take r (now (out .exit))
+        ≡ auditLine (audit (now (file .entry)) (entries32 (now (values .entry))) (entries16 (now (picks .entry))))) ⌝ }
 {
     let mut v = [0u32; MAX_STATES];
     let n = values_of(values, &mut v);

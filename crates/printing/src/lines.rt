@@ -11,7 +11,7 @@ ghost use Prim.Native.Nat.{_≤_, _<_};
 ghost use lib.ListN.{length, take, getD};
 ghost use Rattle.model.specs.Answers.{answerOf, auditedOf};
 ghost use Rattle.model.specs.Lines.{blankNumber, answerLine, auditLine, listed, lineOn, stateLine, stateLines, runText};
-ghost use Rattle.printing.specs.Texts.{Holds};
+ghost use Rattle.printing.specs.Texts.{Holds, Brief, lineMost};
 
 // Puts a word and two numbers at the front of `out`.
 fn put_counts(out: &mut [u8], word: &[u8], a: u64, b: u64) -> usize
@@ -25,6 +25,7 @@ fn put_counts(out: &mut [u8], word: &[u8], a: u64, b: u64) -> usize
 // Puts the first line of `plan`: how the run ended, or the refusal.
 fn put_answer(out: &mut [u8], answer: SolveAnswer) -> usize
     ensures { λ r. ⌜ Holds (now (out .exit)) r (answerLine (answerOf answer)) ⌝ }
+    ensures brief { λ r. ⌜ length (answerLine (answerOf answer)) ≤ lineMost ⌝ }
 {
     match answer {
         SolveAnswer::Solved {
@@ -135,6 +136,11 @@ pub fn plan_text(
         (now (out .exit)) r
         (runText
         (answerOf answer) (now (values .entry)) (now (picks .entry)) (now (walk .entry)) (length (now (walk .entry)))) ⌝ }
+    ensures brief { λ r.
+        ⌜ Brief
+        (runText
+        (answerOf answer) (now (values .entry)) (now (picks .entry)) (now (walk .entry)) (length (now (walk .entry))))
+        (length (now (walk .entry))) ⌝ }
 {
     let first = put_answer(out, answer);
     put_states(out, first, values, picks, walk)
@@ -143,6 +149,7 @@ pub fn plan_text(
 // Puts the line of an audit.
 pub fn audit_text(answer: AuditAnswer, out: &mut [u8]) -> usize
     ensures { λ r. ⌜ Holds (now (out .exit)) r (auditLine (auditedOf answer)) ⌝ }
+    ensures brief { λ r. ⌜ length (auditLine (auditedOf answer)) ≤ lineMost ⌝ }
 {
     match answer {
         AuditAnswer::Accepted { least } => {

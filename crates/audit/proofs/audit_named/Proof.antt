@@ -70,10 +70,10 @@ audit-line-requires : tie.Need-audit-line-requires
 audit-line-requires c κs = search needs
 
 array-share-prefix-out : tie.Need-array-share-prefix-out
-array-share-prefix-out c = c .before .audit-line .ensures .within
+array-share-prefix-out c = c .before .audit-line .ensures .0 .within
 
 slice-aggregate-write-all : tie.Need-slice-aggregate-write-all
-slice-aggregate-write-all c = sym (length-take-le _ _ (c .before .before .audit-line .ensures .within))
+slice-aggregate-write-all c = sym (length-take-le _ _ (c .before .before .audit-line .ensures .0 .within))
 
 write-all-requires : tie.Need-write-all-requires
 write-all-requires c κs = search needs

@@ -1,8 +1,10 @@
 -- `audit_line` audits what it read of the tables, which has the audit of the whole tables, and puts its line.
 -- Made by `places make` from answers/audit_line.ans: edit that file, and not this one.
 use mathlib.Core.Path.{_∙_, sym, ap}
+use native.Mathlib.Nat.{le-trans}
 use lib.Seq.{length-take-le}
 use Rattle.model.specs.Lines.{auditLine}
+use Rattle.printing.proofs.Lengths.{uncut}
 use Rattle.printing.proofs.Planning.{audit-read}
 use Rattle.printing.proofs.Putting.{same}
 use borrow.Author.Needs.{needs}
@@ -44,11 +46,11 @@ same-length c = c .before .before .audit-text .kept .1 .0
 
 returns : tie.Need-returns
 returns c =
-    same _ _ _ _
-    (ap auditLine
-    (c .before .before .before .before .audit .ensures .0
-    ∙ audit-read _ _ _ _ _ _ _ (c .before .before .before .before .before .before .before .before .before .before .before .values-of .kept .1 .0) (c .before .before .before .before .before .before .before .before .picks-of .kept .1 .0) (c .before .before .before .before .before .before .before .before .before .before .before .values-of .ensures) (c .before .before .before .before .before .before .before .before .picks-of .ensures)))
-    (c .before .before .audit-text .ensures)
+    let e =
+    c .before .before .before .before .audit .ensures .0
+    ∙ audit-read _ _ _ _ _ _ _ (c .before .before .before .before .before .before .before .before .before .before .before .values-of .kept .1 .0) (c .before .before .before .before .before .before .before .before .picks-of .kept .1 .0) (c .before .before .before .before .before .before .before .before .before .before .before .values-of .ensures) (c .before .before .before .before .before .before .before .before .picks-of .ensures) in
+    let h = same _ _ _ _ (ap auditLine e) (c .before .before .audit-text .ensures .0) in
+    (h, λ l. uncut _ _ _ h (rw (← e) (le-trans (c .before .before .audit-text .ensures .1) l)))
 
 pub audit-line-spec : {M : Type 1} → statement M
 audit-line-spec =

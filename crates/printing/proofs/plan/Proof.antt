@@ -13,7 +13,8 @@ use Rattle.printing.proofs.plan.Tie as tie
 -- the states lie within the walk list, the values and the picks
 walk-room : (c : tie.After-states-of) → c .states-of .result ≤ length (c .before .before .before .before .before .before .before .solve .last .1 .1 .1 .1 .1 .0)
 walk-room c =
-    le-trans (run-room _ _ _ _ _ (c .before .before .before .before .before .before .before .solve .ensures .0 .answer) (c .states-of .ensures) .walk-room) (le-of-eq (sym (c .before .before .before .before .before .before .before .solve .kept .1 .1 .1 .1 .1 .0)))
+    le-trans (run-room _ _ _ _ _ (c .before .before .before .before .before .before .before .solve .ensures .0 .answer) (c .states-of .ensures) .walk-room)
+    (le-of-eq (sym (c .before .before .before .before .before .before .before .solve .kept .1 .1 .1 .1 .1 .0)))
 
 values-room : (c : tie.After-states-of) → c .states-of .result ≤ length (c .before .before .before .before .before .before .before .solve .last .1 .1 .0)
 values-room c =
@@ -59,7 +60,7 @@ same-length-3 c = c .before .before .plan-text .kept .1 .1 .1 .1 .0
 returns : tie.Need-returns
 returns c =
     plans _ _ _ _ _ _ _ _ _ _ _ (c .before .before .before .before .before .before .before .before .before .before .before .before .before .before .solve .ensures .0) (c .before .before .before .before .before .before .before .states-of .ensures) (c .before .before .before .before .before .before .before .before .before .before .before .before .before .before .solve .kept .1 .1 .0) (c .before .before .before .before .before .before .before .before .before .before .before .before .before .before .solve .kept .1 .1 .1 .0)
-    (walk-room (c .before .before .before .before .before .before .before)) (c .before .before .plan-text .ensures)
+    (c .before .before .before .before .before .before .before .before .before .before .before .before .before .before .solve .kept .1 .1 .1 .1 .1 .0) (walk-room (c .before .before .before .before .before .before .before)) (c .before .before .plan-text .ensures .0) (c .before .before .plan-text .ensures .1)
 
 pub plan-spec : {M : Type 1} → statement M
 plan-spec =

@@ -27,16 +27,19 @@ enum-told-3 c = search needs
 returns : tie.Need-returns
 unfolding runStates problemOf
 returns c =
-    c .layout-of .ensures .states-count ∙ sym (ap (λ a. runStates (answerOf a) (problemOf (c .before .before .before .before .args .file .now) .states)) (c .before .enum-told .given .1))
+    c .layout-of .ensures .states-count
+    ∙ sym (ap (λ a. runStates (answerOf a) (problemOf (c .before .before .before .before .args .file .now) .states)) (c .before .enum-told .given .1))
 
 returns-2 : tie.Need-returns-2
 unfolding runStates problemOf
 returns-2 c =
-    c .layout-of2 .ensures .states-count ∙ sym (ap (λ a. runStates (answerOf a) (problemOf (c .before .before .before .before .args .file .now) .states)) (c .before .enum-told2 .given .1))
+    c .layout-of2 .ensures .states-count
+    ∙ sym (ap (λ a. runStates (answerOf a) (problemOf (c .before .before .before .before .args .file .now) .states)) (c .before .enum-told2 .given .1))
 
 returns-3 : tie.Need-returns-3
 unfolding runStates
-returns-3 c = sym (ap (λ a. runStates (answerOf a) (problemOf (c .before .before .before .args .file .now) .states)) (c .enum-told3 .given .1))
+returns-3 c =
+    sym (ap (λ a. runStates (answerOf a) (problemOf (c .before .before .before .args .file .now) .states)) (c .enum-told3 .given .1))
 
 pub states-of-spec : {M : Type 1} → statement M
 states-of-spec =

@@ -6,8 +6,10 @@ use mir.Syntax.{w64}
 use mir.ValLaws.{toZ-ofZ}
 use Rattle.model.specs.Answers.{auditedOf}
 use Rattle.model.specs.Lines.{codes, blankNumber, blankSigned, auditLine}
+use Rattle.printing.proofs.Lengths.{accepted-most, audit-refused-most}
 use Rattle.printing.proofs.Putting.{more, same}
 use borrow.Author.Needs.{needs}
+use native.Mathlib.Omega.{arith}
 use Rattle.printing.proofs.lines.audit_text.Statement.{statement}
 use Rattle.printing.proofs.lines.audit_text.Tie as tie
 
@@ -62,8 +64,12 @@ same-length c = c .before .before .put2 .kept .0 ∙ (c .before .before .before 
 returns : tie.Need-returns
 unfolding auditLine
 returns c =
-    same _ _ _ _ (sym (ap (λ a. auditLine (auditedOf a)) (c .before .before .before .before .before .before .before .before .before .before .before .before .before .before .before .answer .given .1)))
-    (more _ _ _ _ _ _ (c .before .before .put2 .kept .0) (more _ _ _ _ _ _ (c .before .before .before .before .before .before .before .put-next .kept .0) (c .before .before .before .before .before .before .before .before .before .before .before .put .ensures) (c .before .before .before .before .before .before .before .put-next .ensures)) (c .before .before .put2 .ensures))
+    let e = c .before .before .before .before .before .before .before .before .before .before .before .before .before .before .before .answer .given .1 in
+    let t = c .before .before .before .before .before .before .before .before .before .before .before .before .before .before .known-told .given in (
+      same _ _ _ _ (sym (ap (λ a. auditLine (auditedOf a)) e))
+          (more _ _ _ _ _ _ (c .before .before .put2 .kept .0) (more _ _ _ _ _ _ (c .before .before .before .before .before .before .before .put-next .kept .0) (c .before .before .before .before .before .before .before .before .before .before .before .put .ensures) (c .before .before .before .before .before .before .before .put-next .ensures)) (c .before .before .put2 .ensures)),
+      rw e (accepted-most _ (omega (arith, t))),
+    )
 
 same-length-2 : tie.Need-same-length-2
 same-length-2 c = c .before .before .put3 .kept .0 ∙ (c .before .before .before .before .before .before .before .put-signed .kept .0) ∙ (c .before .before .before .before .before .before .before .before .before .before .before .put-counts .kept .0)
@@ -72,13 +78,16 @@ returns-2 : tie.Need-returns-2
 unfolding auditLine
 returns-2 c =
     let v = c .before .before .before .before .before .before .before .before .before .before .before .before .before .before .before .answer2 .given .0 in
+    let e = c .before .before .before .before .before .before .before .before .before .before .before .before .before .before .before .answer2 .given .1 in
     let t = c .before .before .before .before .before .before .before .before .before .before .before .before .before .before .known-told2 .given in
-    let x = toZ-ofZ w64 (v .1 .1 .0) (record { sfits = t .1 .1 .0 .1 }) in
-    same _ _ _ _
-    (ap (λ z. codes "refused" ++ blankNumber (v .0) ++ blankNumber (v .1 .0) ++ blankSigned z ++ codes "\n") x
-    ∙ sym (ap (λ a. auditLine (auditedOf a)) (c .before .before .before .before .before .before .before .before .before .before .before .before .before .before .before .answer2 .given .1)))
-    (more _ _ _ _ _ _ (c .before .before .put3 .kept .0) (more _ _ _ _ _ _ (c .before .before .before .before .before .before .before .put-signed .kept .0) (c .before .before .before .before .before .before .before .before .before .before .before .put-counts .ensures) (c .before .before .before .before .before .before .before .put-signed .ensures))
-    (c .before .before .put3 .ensures))
+    let x = toZ-ofZ w64 (v .1 .1 .0) (record { sfits = t .1 .1 .0 .1 }) in (
+      same _ _ _ _
+          (ap (λ z. codes "refused" ++ blankNumber (v .0) ++ blankNumber (v .1 .0) ++ blankSigned z ++ codes "\n") x
+          ∙ sym (ap (λ a. auditLine (auditedOf a)) e))
+          (more _ _ _ _ _ _ (c .before .before .put3 .kept .0) (more _ _ _ _ _ _ (c .before .before .before .before .before .before .before .put-signed .kept .0) (c .before .before .before .before .before .before .before .before .before .before .before .put-counts .ensures) (c .before .before .before .before .before .before .before .put-signed .ensures))
+          (c .before .before .put3 .ensures)),
+      rw e (audit-refused-most _ _ (v .1 .1 .0) (omega (arith, t)) (omega (arith, t)) (t .1 .1 .0 .1)),
+    )
 
 pub audit-text-spec : {M : Type 1} → statement M
 audit-text-spec =

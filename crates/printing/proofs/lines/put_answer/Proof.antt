@@ -3,8 +3,10 @@
 use mathlib.Core.Path.{_∙_, sym, ap}
 use Rattle.model.specs.Answers.{answerOf}
 use Rattle.model.specs.Lines.{answerLine}
+use Rattle.printing.proofs.Lengths.{solved-most, spent-most, refused-most}
 use Rattle.printing.proofs.Putting.{more, same}
 use borrow.Author.Needs.{needs}
+use native.Mathlib.Omega.{arith}
 use Rattle.printing.proofs.lines.put_answer.Statement.{statement}
 use Rattle.printing.proofs.lines.put_answer.Tie as tie
 
@@ -71,8 +73,13 @@ same-length c = c .before .before .put .kept .0 ∙ (c .before .before .before .
 returns : tie.Need-returns
 unfolding answerLine
 returns c =
-    same _ _ _ _ (sym (ap (λ a. answerLine (answerOf a)) (c .before .before .before .before .before .before .before .before .before .before .before .before .before .before .before .answer .given .1)))
-    (more _ _ _ _ _ _ (c .before .before .put .kept .0) (more _ _ _ _ _ _ (c .before .before .before .before .before .before .before .put-next .kept .0) (c .before .before .before .before .before .before .before .before .before .before .before .put-counts .ensures) (c .before .before .before .before .before .before .before .put-next .ensures)) (c .before .before .put .ensures))
+    let e = c .before .before .before .before .before .before .before .before .before .before .before .before .before .before .before .answer .given .1 in
+    let t = c .before .before .before .before .before .before .before .before .before .before .before .before .before .before .known-told .given in (
+      same _ _ _ _ (sym (ap (λ a. answerLine (answerOf a)) e))
+          (more _ _ _ _ _ _ (c .before .before .put .kept .0) (more _ _ _ _ _ _ (c .before .before .before .before .before .before .before .put-next .kept .0) (c .before .before .before .before .before .before .before .before .before .before .before .put-counts .ensures) (c .before .before .before .before .before .before .before .put-next .ensures))
+          (c .before .before .put .ensures)),
+      rw e (solved-most _ _ _ (omega (arith, t)) (omega (arith, t)) (omega (arith, t))),
+    )
 
 same-length-2 : tie.Need-same-length-2
 same-length-2 c = c .before .before .put2 .kept .0 ∙ (c .before .before .before .before .before .before .before .put-counts2 .kept .0)
@@ -80,8 +87,12 @@ same-length-2 c = c .before .before .put2 .kept .0 ∙ (c .before .before .befor
 returns-2 : tie.Need-returns-2
 unfolding answerLine
 returns-2 c =
-    same _ _ _ _ (sym (ap (λ a. answerLine (answerOf a)) (c .before .before .before .before .before .before .before .before .before .before .before .answer2 .given .1)))
-    (more _ _ _ _ _ _ (c .before .before .put2 .kept .0) (c .before .before .before .before .before .before .before .put-counts2 .ensures) (c .before .before .put2 .ensures))
+    let e = c .before .before .before .before .before .before .before .before .before .before .before .answer2 .given .1 in
+    let t = c .before .before .before .before .before .before .before .before .before .before .known-told2 .given in (
+      same _ _ _ _ (sym (ap (λ a. answerLine (answerOf a)) e))
+          (more _ _ _ _ _ _ (c .before .before .put2 .kept .0) (c .before .before .before .before .before .before .before .put-counts2 .ensures) (c .before .before .put2 .ensures)),
+      rw e (spent-most _ _ (omega (arith, t)) (omega (arith, t))),
+    )
 
 same-length-3 : tie.Need-same-length-3
 same-length-3 c = c .before .before .put3 .kept .0 ∙ (c .before .before .before .before .before .before .before .put-counts3 .kept .0)
@@ -89,8 +100,12 @@ same-length-3 c = c .before .before .put3 .kept .0 ∙ (c .before .before .befor
 returns-3 : tie.Need-returns-3
 unfolding answerLine
 returns-3 c =
-    same _ _ _ _ (sym (ap (λ a. answerLine (answerOf a)) (c .before .before .before .before .before .before .before .before .before .before .before .answer3 .given .1)))
-    (more _ _ _ _ _ _ (c .before .before .put3 .kept .0) (c .before .before .before .before .before .before .before .put-counts3 .ensures) (c .before .before .put3 .ensures))
+    let e = c .before .before .before .before .before .before .before .before .before .before .before .answer3 .given .1 in
+    let t = c .before .before .before .before .before .before .before .before .before .before .known-told3 .given in (
+      same _ _ _ _ (sym (ap (λ a. answerLine (answerOf a)) e))
+          (more _ _ _ _ _ _ (c .before .before .put3 .kept .0) (c .before .before .before .before .before .before .before .put-counts3 .ensures) (c .before .before .put3 .ensures)),
+      rw e (refused-most _ _ (omega (arith, t)) (omega (arith, t))),
+    )
 
 pub put-answer-spec : {M : Type 1} → statement M
 put-answer-spec =

@@ -22,7 +22,8 @@ loop-holds : tie.Need-loop-holds Inv-loop μ-loop
 loop-holds c = (omega arith, refl, lines-start _ _ _ _ _ (c .before .before .before .before .pre .0))
 
 put-listed-requires : tie.Need-put-listed-requires Inv-loop μ-loop
-put-listed-requires c κs = (c .before .before .loop .inv .2 .within, omega (arith, c .before .loop-test .taken, c .before .before .before .before .before .before .before .pre), omega (arith, c .before .loop-test .taken, c .before .before .before .before .before .before .before .pre))
+put-listed-requires c κs =
+    (c .before .before .loop .inv .2 .within, omega (arith, c .before .loop-test .taken, c .before .before .before .before .before .before .before .pre), omega (arith, c .before .loop-test .taken, c .before .before .before .before .before .before .before .pre))
 
 add-s : tie.Need-add-s Inv-loop μ-loop
 add-s c = search needs
@@ -34,7 +35,8 @@ loop-again : tie.Need-loop-again Inv-loop μ-loop
 loop-again c = (
   omega (arith, c .before .before .before .before .loop-test .taken),
   c .before .before .put-listed .kept .0 ∙ (c .before .before .before .before .before .loop .inv .1),
-  lines-go-on (c .before .before .before .before .before .before .before .before .before .before .args .values .now) (c .before .before .before .before .before .before .before .before .before .before .args .picks .now) (c .before .before .before .before .before .before .before .before .before .before .args .walk .now) (c .before .before .before .before .before .before .before .before .before .before .args .out .now) (c .before .before .before .before .before .before .before .before .before .before .args .at)
+  lines-go-on (c .before .before .before .before .before .before .before .before .before .before .args .values .now) (c .before .before .before .before .before .before .before .before .before .before .args .picks .now) (c .before .before .before .before .before .before .before .before .before .before .args .walk .now) (c .before .before .before .before .before .before .before .before .before .before .args .out .now)
+      (c .before .before .before .before .before .before .before .before .before .before .args .at)
       (c .before .before .before .before .before .loop .out) (c .before .before .put-listed .last .0) (c .before .before .before .before .before .loop .to) (c .before .before .put-listed .result) (c .before .before .before .before .before .loop .s)
       (c .before .before .put-listed .kept .0) (c .before .before .before .before .before .loop .inv .2) (c .before .before .put-listed .ensures),
 )
@@ -44,7 +46,8 @@ same-length c = c .before .loop .inv .1
 
 returns : tie.Need-returns Inv-loop μ-loop
 returns c =
-    lines-end (c .before .before .before .before .before .before .args .values .now) (c .before .before .before .before .before .before .args .picks .now) (c .before .before .before .before .before .before .args .walk .now) (c .before .before .before .before .before .before .args .out .now) (c .before .before .before .before .before .before .args .at) _ _ _
+    lines-end (c .before .before .before .before .before .before .args .values .now) (c .before .before .before .before .before .before .args .picks .now) (c .before .before .before .before .before .before .args .walk .now) (c .before .before .before .before .before .before .args .out .now)
+    (c .before .before .before .before .before .before .args .at) _ _ _
     (c .before .loop .inv .0) (c .loop-test .left) (c .before .loop .inv .2)
 
 pub put-states-spec : {M : Type 1} → statement M

@@ -21,7 +21,9 @@ same-length : tie.Need-same-length
 same-length c = c .before .before .put-number .kept .0 ∙ (c .before .before .before .before .before .before .put .kept .0)
 
 returns : tie.Need-returns
-returns c = after _ _ (take (c .before .before .before .before .before .before .before .before .before .before .args .at) (c .before .before .before .before .before .before .before .before .before .before .args .out .now)) (codes " ") (decimal (c .before .before .before .before .before .before .before .before .before .before .args .n)) _ _ (c .before .before .put-number .kept .0) (c .before .before .before .before .before .before .put .ensures) (c .before .before .put-number .ensures)
+returns c =
+    after _ _ (take (c .before .before .before .before .before .before .before .before .before .before .args .at) (c .before .before .before .before .before .before .before .before .before .before .args .out .now)) (codes " ") (decimal (c .before .before .before .before .before .before .before .before .before .before .args .n)) _ _
+    (c .before .before .put-number .kept .0) (c .before .before .before .before .before .before .put .ensures) (c .before .before .put-number .ensures)
 
 pub put-next-spec : {M : Type 1} → statement M
 put-next-spec =

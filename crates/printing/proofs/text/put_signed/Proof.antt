@@ -29,7 +29,8 @@ returns : tie.Need-returns
 returns c =
     same _ _ _ _
     (ap (λ t. take (c .before .before .before .before .before .before .before .before .before .before .before .before .args .at) (c .before .before .before .before .before .before .before .before .before .before .before .before .args .out .now) ++ t) (signed-below _ _ (c .before .before .before .before .before .before .before .before .before .before .before .before .fits .x) (c .before .before .before .before .before .before .before .before .before .before .distance .ensures) (c .before .before .before .before .before .before .before .before .before .if1 .taken)))
-    (after _ _ (take (c .before .before .before .before .before .before .before .before .before .before .before .before .args .at) (c .before .before .before .before .before .before .before .before .before .before .before .before .args .out .now)) (codes " -") (decimal (c .before .before .before .before .before .before .before .before .before .before .distance .result)) _ _ (c .before .before .put-number .kept .0) (c .before .before .before .before .before .before .put .ensures) (c .before .before .put-number .ensures))
+    (after _ _ (take (c .before .before .before .before .before .before .before .before .before .before .before .before .args .at) (c .before .before .before .before .before .before .before .before .before .before .before .before .args .out .now)) (codes " -") (decimal (c .before .before .before .before .before .before .before .before .before .before .distance .result)) _ _
+    (c .before .before .put-number .kept .0) (c .before .before .before .before .before .before .put .ensures) (c .before .before .put-number .ensures))
 
 put-next-requires : tie.Need-put-next-requires
 put-next-requires c κs = c .before .before .before .before .pre
