@@ -32,3 +32,6 @@ pub mod Underway
 pub mod Guarantee
 pub mod Instances
 pub mod Excess
+pub mod Agreeing
+pub mod TableFiles
+pub mod Prefixes

@@ -21,6 +21,9 @@ use Rattle.model.specs.Solution.{checkedRound, checkedBackups, checkedBa
 use Rattle.model.specs.Solution.{checkedConsider, checkedConsiderOn, checkedEvaluate}
 use Rattle.model.specs.Audit.{Audited, accepted, audit, problemAudit, tableQuestions, unboundedState, strayState, slackState}
 use Rattle.model.specs.Audit.{pickValue}
+use Rattle.model.specs.Lines.{codes, planText, answerLine, stateLines, stateLine, listed, runStates}
+use Rattle.model.specs.Lines.{decimal, decimalFrom, auditLine}
+use Rattle.model.specs.TableFiles.{bytes32, entries16, numberBytes, tableBytes, listTo}
 
 -- "File P: start 0, e 1, D 5,000, all H 0; states 0 (two rows), 1 (one row), 2 goal."
 abbrev pub settingsP : List ℕ → List ℕ
@@ -70,6 +73,10 @@ valuesP = 370000 ∷ 300000 ∷ 0 ∷ []
 
 abbrev pub picksP : List ℕ
 picksP = 0 ∷ 2 ∷ 65534 ∷ []
+
+-- "It prints, whole"
+abbrev pub textP : List ℕ
+textP = codes "solved 3 5 100000\n0 370000 0\n1 300000 2\n"
 
 -- two outcomes, with their weights
 abbrev pub two : ℕ → ℕ → List Outcome
@@ -128,6 +135,11 @@ cases =
     ∷ (planned oneState 1 .tables .values ≡ 1000 ∷ [])
     ∷ (planned oneState 1 .tables .picks ≡ 65535 ∷ [])
     ∷ (planned oneState 1 .tables .walk-list ≡ 0 ∷ [])
+    ∷ (planText 3 (planned fileP 3) ≡ textP)
+    ∷ (planText 1 (planned oneState 1) ≡ codes "solved 2 0 1000\n0 1000 give\n")
+    ∷ (auditLine (audit fileP (369999 ∷ 300000 ∷ 0 ∷ []) picksP) ≡ codes "refused 19 0 -1\n")
+    ∷ (bytes32 (258 ∷ []) ≡ 2 ∷ 1 ∷ 0 ∷ 0 ∷ [])
+    ∷ (entries16 (2 ∷ 1 ∷ 7 ∷ []) ≡ 258 ∷ [])
     ∷ []
 
 pub cases-hold : All cases
@@ -139,4 +151,5 @@ unfolding fileQuestions layoutQuestions sectionQuestions endQuestion settingQues
     checkedConsiderIf checkedConsider checkedConsiderOn checkedEvaluate evaluateOn settle raiseOn machineStart fillTo listTable
     walk visitState visitOutcomes next leastCost leastTo pickCost
     audit problemAudit tableQuestions unboundedState strayState slackState pickValue
-cases-hold = (refl, (refl, (refl, (refl, (refl, (refl, (refl, (refl, (refl, (refl, (refl, (refl, (refl, (refl, (refl, (refl, (refl, (refl, (refl, (refl, (refl, (refl, (refl, (refl, (refl, (refl, tt))))))))))))))))))))))))))
+    planText answerLine stateLines stateLine listed runStates decimal decimalFrom auditLine numberBytes tableBytes listTo entries16
+cases-hold = (refl, (refl, (refl, (refl, (refl, (refl, (refl, (refl, (refl, (refl, (refl, (refl, (refl, (refl, (refl, (refl, (refl, (refl, (refl, (refl, (refl, (refl, (refl, (refl, (refl, (refl, (refl, (refl, (refl, (refl, (refl, tt)))))))))))))))))))))))))))))))

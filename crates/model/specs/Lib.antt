@@ -12,5 +12,7 @@ pub mod Walk
 pub mod Rounds
 pub mod Solution
 pub mod Audit
+pub mod Lines
+pub mod TableFiles
 pub mod Cover
 pub mod Cases

@@ -1,169 +1,211 @@
 // The program `plan`: reads a problem file from standard input, runs up to 1,000,000 rounds, and prints the plan, a line for each
-// state of the last walk, by state number.
+// state of the last walk, by state number. With two names it also writes the tables of the run to files of these names.
+use libc::ENOENT;
+use libc::STDERR_FILENO;
 use libc::STDIN_FILENO;
 use libc::STDOUT_FILENO;
-use model::SolveAnswer;
+use model::MAX_STATES;
+use printing::files::fail;
+use printing::files::read_whole;
+use printing::tables::put_picks;
+use printing::tables::put_values;
+use printing::text::put;
 ghost use mathlib.Core.Path.{_≡_};
-ghost use Prim.Native.Nat.{_≤_};
-ghost use lib.ListN.{length};
+ghost use mathlib.Core.List.{_++_};
+ghost use Rattle.model.specs.Lines.{codes};
+ghost use Rattle.printing.specs.Texts.{Holds};
+ghost use Rattle.plan.specs.Names.{sameName, clashing};
 
-const ROUNDS: u64 = 1000000;
+// Room for the text of a plan, whatever the file: 73 bytes for the first line and 22 for each state.
+const ROOM: usize = 32 * MAX_STATES;
 
-// Room for the first line and 1,024 more: a line has at most 21 bytes.
-const ROOM: usize = 32768;
+// Room for the bytes of a table: 4 for each state.
+const TABLE: usize = 4 * MAX_STATES;
 
-// Puts `text` into `out` at `at`, as far as there is room, and answers the place after it.
-fn put(out: &mut [u8], at: usize, text: &[u8]) -> usize
-    requires { ⌜ at ≤ length (now out) ⌝ }
-    ensures { λ r. ⌜ r ≤ length (now (out .exit)) ⌝ }
+// Room for the longest argument that is read, 4,096 bytes, and `.part`.
+const PART: usize = 4200;
+
+fn complain(text: &[u8]) {
+    io::write_all(STDERR_FILENO, text);
+}
+
+// Writes all of `bytes` to a file that was opened, and answers whether that went well.
+fn write_closing(fd: i32, bytes: &[u8]) -> bool {
+    let is_written = io::write_all(fd, bytes);
+    if libc::close(fd) < 0 {
+        return false;
+    }
+    is_written
+}
+
+// Whether a table may be put under this name: it is free, or a file that may be written. A folder or a device is not.
+fn is_free(name: &[u8]) -> bool {
+    let fd = os::open_append(name);
+    if fd < 0 {
+        return os::errno() == ENOENT;
+    }
+    let is_file = libc::fsync(fd) == 0;
+    libc::close(fd);
+    is_file
+}
+
+// Writes a table to its part file, which must be new. Where that fails it is said, and no part file is left.
+fn write_part(name: &[u8], part: &[u8], bytes: &[u8]) -> bool {
+    let fd = os::create(part);
+    if fd < 0 {
+        fail(b"plan", name);
+        return false;
+    }
+    if write_closing(fd, bytes) {
+        return true;
+    }
+    fail(b"plan", name);
+    os::unlink(part);
+    false
+}
+
+// Gives a part file its name. Where that fails it is said, and no part file is left.
+fn place(name: &[u8], part: &[u8]) -> bool {
+    if os::rename(part, name) == 0 {
+        return true;
+    }
+    fail(b"plan", name);
+    os::unlink(part);
+    false
+}
+
+// The name of a part file: the table's name and `.part`.
+fn part_of(name: &[u8], part: &mut [u8]) -> usize
+    ensures { λ r. ⌜ Holds (now (part .exit)) r (now (name .entry) ++ codes ".part") ⌝ }
 {
-    let mut to = at;
+    let n = put(part, 0, name);
+    put(part, n, b".part")
+}
+
+// Whether two names are the same.
+fn are_equal(a: &[u8], b: &[u8]) -> bool
+    ensures { λ r. ⌜ r ≡ sameName (now (a .entry)) (now (b .entry)) ⌝ }
+{
+    if a.len() != b.len() {
+        return false;
+    }
     let mut i = 0;
-    while i < text.len() && to < out.len() {
-        out[to] = text[i];
-        to += 1;
+    while i < a.len() && i < b.len() {
+        if a[i] != b[i] {
+            return false;
+        }
         i += 1;
     }
-    to
+    true
 }
 
-// Puts a number in decimal.
-fn put_number(out: &mut [u8], at: usize, n: u64) -> usize
-    requires { ⌜ at ≤ length (now out) ⌝ }
-    ensures { λ r. ⌜ r ≤ length (now (out .exit)) ⌝ }
+// Whether one of two tables would land on the other, or on the other's part file.
+fn do_clash(name: &[u8], part: &[u8], name2: &[u8], part2: &[u8]) -> bool
+    ensures { λ r. ⌜ r ≡ clashing (now (name .entry)) (now (part .entry)) (now (name2 .entry)) (now (part2 .entry)) ⌝ }
 {
-    let mut digits = [0u8; 20];
-    let k = io::decimal(n, &mut digits);
-    put(out, at, &digits[..k])
-}
-
-// Puts a blank and a number.
-fn put_next(out: &mut [u8], at: usize, n: u64) -> usize
-    requires { ⌜ at ≤ length (now out) ⌝ }
-    ensures { λ r. ⌜ r ≤ length (now (out .exit)) ⌝ }
-{
-    let to = put(out, at, b" ");
-    put_number(out, to, n)
-}
-
-// Puts a state's line: its number, its value, and its row or `give`.
-fn put_state(out: &mut [u8], at: usize, state: usize, value: u32, pick: u16) -> usize
-    requires { ⌜ at ≤ length (now out) ⌝ }
-    ensures { λ r. ⌜ r ≤ length (now (out .exit)) ⌝ }
-{
-    let a = put_number(out, at, state as u64);
-    let b = put_next(out, a, value as u64);
-    if pick == 65535 {
-        return put(out, b, b" give\n");
+    if are_equal(name, name2) {
+        return true;
     }
-    let c = put_next(out, b, pick as u64);
-    put(out, c, b"\n")
-}
-
-fn wide(x: u16) -> usize
-    ensures { λ r. ⌜ r ≡ x ⌝ }
-{
-    x as usize
-}
-
-// Marks the states of a walk list, which ends in 65,535s.
-fn mark_listed(walk: &[u16; 1024], marks: &mut [u8; 1024]) {
-    let mut k = 0;
-    while k < 1024 {
-        let s = wide(walk[k]);
-        if s < 1024 {
-            marks[s] = 1;
-        }
-        k += 1;
+    if are_equal(name, part2) {
+        return true;
     }
+    are_equal(part, name2)
 }
 
-// Puts a state's line where it is marked.
-fn put_marked(out: &mut [u8], at: usize, mark: u8, state: usize, value: u32, pick: u16) -> usize
-    requires { ⌜ at ≤ length (now out) ⌝ }
-    ensures { λ r. ⌜ r ≤ length (now (out .exit)) ⌝ }
-{
-    if mark == 0 {
-        return at;
+// Whether both names can take a table; where one cannot, that is said. Part files of an earlier run are removed.
+fn are_ready(name: &[u8], part: &[u8], name2: &[u8], part2: &[u8]) -> bool {
+    if do_clash(name, part, name2, part2) {
+        complain(b"plan: VALUES and PICKS need two names\n");
+        return false;
     }
-    put_state(out, at, state, value, pick)
-}
-
-// Puts the lines of the marked states, by state number.
-fn put_states(
-    out: &mut [u8],
-    at: usize,
-    marks: &[u8; 1024],
-    values: &[u32; 1024],
-    picks: &[u16; 1024],
-) -> usize
-    requires { ⌜ at ≤ length (now out) ⌝ }
-    ensures { λ r. ⌜ r ≤ length (now (out .exit)) ⌝ }
-{
-    let mut to = at;
-    let mut s = 0;
-    while s < 1024 {
-        to = put_marked(out, to, marks[s], s, values[s], picks[s]);
-        s += 1;
+    if !is_free(name) {
+        fail(b"plan", name);
+        return false;
     }
-    to
-}
-
-// Puts the first line: how the run ended, or the refusal.
-fn put_answer(out: &mut [u8], answer: SolveAnswer) -> usize
-    ensures { λ r. ⌜ r ≤ length (now (out .exit)) ⌝ }
-{
-    match answer {
-        SolveAnswer::Solved {
-            rounds,
-            evaluations,
-            least,
-        } => {
-            let a = put(out, 0, b"solved");
-            let b = put_next(out, a, rounds);
-            let c = put_next(out, b, evaluations);
-            let d = put_next(out, c, least as u64);
-            put(out, d, b"\n")
-        }
-        SolveAnswer::Spent {
-            rounds,
-            evaluations,
-        } => {
-            let a = put(out, 0, b"spent");
-            let b = put_next(out, a, rounds);
-            let c = put_next(out, b, evaluations);
-            put(out, c, b"\n")
-        }
-        SolveAnswer::Refused { question, place } => {
-            let a = put(out, 0, b"refused");
-            let b = put_next(out, a, question as u64);
-            let c = put_next(out, b, place as u64);
-            put(out, c, b"\n")
-        }
+    if !is_free(name2) {
+        fail(b"plan", name2);
+        return false;
     }
+    os::unlink(part);
+    os::unlink(part2);
+    true
 }
 
-// A file is at most 55,316 bytes long. Of a longer input the first 65,536 bytes are refused with the same question and place as
-// all of it: only question 3 sees the end.
-fn main() {
+// Writes both part files, and gives them their names once both are whole.
+fn save(values_name: &[u8], values: &[u32], picks_name: &[u8], picks: &[u16]) {
+    let mut first = [0u8; PART];
+    let i = part_of(values_name, &mut first);
+    let mut second = [0u8; PART];
+    let j = part_of(picks_name, &mut second);
+    if !are_ready(values_name, &first[..i], picks_name, &second[..j]) {
+        return;
+    }
+    let mut bytes = [0u8; TABLE];
+    let n = put_values(values, &mut bytes);
+    if !write_part(values_name, &first[..i], &bytes[..n]) {
+        return;
+    }
+    let m = put_picks(picks, &mut bytes);
+    if !write_part(picks_name, &second[..j], &bytes[..m]) {
+        os::unlink(&first[..i]);
+        return;
+    }
+    if !place(values_name, &first[..i]) {
+        os::unlink(&second[..j]);
+        return;
+    }
+    place(picks_name, &second[..j]);
+}
+
+// Writes the tables to the files that the two arguments name.
+fn save_named(values: &[u32], picks: &[u16]) {
+    let mut first = io::buffer();
+    let n = os::arg(1, &mut first);
+    if os::errno() != 0 {
+        fail(b"plan", b"VALUES");
+        return;
+    }
+    let mut second = io::buffer();
+    let m = os::arg(2, &mut second);
+    if os::errno() != 0 {
+        fail(b"plan", b"PICKS");
+        return;
+    }
+    save(&first[..n], values, &second[..m], picks);
+}
+
+// A file is at most 55,316 bytes long, and a longer input gets the same answer as its first 65,536 bytes.
+fn plan_input(is_saving: bool) {
     let mut file = io::large_buffer();
-    let n = io::read_full(STDIN_FILENO, &mut file);
-    let mut values = [0u32; 1024];
-    let mut picks = [65534u16; 1024];
-    let mut remembered = [0u32; 4096];
-    let mut walk = [65535u16; 1024];
-    let answer = solving::solve::solve(
-        &file[..n],
-        ROUNDS,
-        &mut values,
-        &mut picks,
-        &mut remembered,
-        &mut walk,
-    );
-    let mut marks = [0u8; 1024];
-    mark_listed(&walk, &mut marks);
+    let got = read_whole(STDIN_FILENO, &mut file);
+    if got.failed {
+        fail(b"plan", b"standard input");
+        return;
+    }
+    let n = got.length;
+    let mut values = [0u32; MAX_STATES];
+    let mut picks = [65534u16; MAX_STATES];
     let mut out = [0u8; ROOM];
-    let first = put_answer(&mut out, answer);
-    let end = put_states(&mut out, first, &marks, &values, &picks);
-    io::write_all(STDOUT_FILENO, &out[..end]);
+    let planned = printing::plan(&file[..n], &mut values, &mut picks, &mut out);
+    let length = planned.length;
+    let states = planned.states;
+    if !io::write_all(STDOUT_FILENO, &out[..length]) {
+        fail(b"plan", b"standard output");
+    }
+    if is_saving && 0 < states {
+        save_named(&values[..states], &picks[..states]);
+    }
+}
+
+fn main() {
+    let names = os::arg_count();
+    if names == 3 {
+        plan_input(true);
+        return;
+    }
+    if names < 2 {
+        plan_input(false);
+        return;
+    }
+    complain(b"plan: give no names, or two: VALUES PICKS\n");
 }

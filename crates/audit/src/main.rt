@@ -1,0 +1,51 @@
+// The program `audit`: audits a problem file with a values file and a picks file, and prints the answer.
+use libc::STDERR_FILENO;
+use libc::STDOUT_FILENO;
+use model::MAX_STATES;
+use printing::files::fail;
+use printing::files::read_named;
+
+// Room for the bytes of two tables, 4 and 2 for each state, and for a line of at most 73 bytes.
+const VALUES: usize = 4 * MAX_STATES;
+
+const PICKS: usize = 2 * MAX_STATES;
+
+const LINE: usize = 128;
+
+// A longer file gets the same answer as its first 65,536 bytes, and a longer table the same as its entries of states.
+fn audit_named() {
+    let mut file = io::large_buffer();
+    let a = read_named(b"audit", 1, &mut file);
+    if a.failed {
+        return;
+    }
+    let mut values = [0u8; VALUES];
+    let b = read_named(b"audit", 2, &mut values);
+    if b.failed {
+        return;
+    }
+    let mut picks = [0u8; PICKS];
+    let c = read_named(b"audit", 3, &mut picks);
+    if c.failed {
+        return;
+    }
+    let i = a.length;
+    let j = b.length;
+    let k = c.length;
+    let mut out = [0u8; LINE];
+    let n = printing::audit_line(&file[..i], &values[..j], &picks[..k], &mut out);
+    if !io::write_all(STDOUT_FILENO, &out[..n]) {
+        fail(b"audit", b"standard output");
+    }
+}
+
+fn main() {
+    if os::arg_count() == 4 {
+        audit_named();
+        return;
+    }
+    io::write_all(
+        STDERR_FILENO,
+        b"audit: give three names: FILE VALUES PICKS\n",
+    );
+}

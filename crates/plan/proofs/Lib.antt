@@ -1,0 +1,2 @@
+-- Laws that the proofs of `plan` cite.
+pub mod Comparing

@@ -1,0 +1,2 @@
+-- What the contracts of `plan` cite.
+pub mod Names

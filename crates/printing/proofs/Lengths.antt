@@ -1,0 +1,137 @@
+-- How long the lines can be: a number below 10 ^ k has at most k digits.
+-- By induction on the fuel; the lines add up their parts.
+use mathlib.Core.Path.{_≡_, refl, _∙_}
+use Prim.Native.Nat.{ℕ, zero, suc, _+_, _*_, _/_, _%_, _^_, _≤_, _<_}
+use native.Mathlib.Omega.{arith}
+use native.Mathlib.Nat.{pow-suc}
+use mathlib.Core.Bool.{Bool, true, false}
+use mathlib.Core.List.{List, [], _∷_, _++_}
+use lib.Dec.{ltb, eqb}
+use lib.IntN.{ℤ, pos, negsuc}
+use lib.ListN.{length, getD, take, length-append}
+use lib.Seq.{take-all}
+use lib.Signed.{mag}
+use borrow.Author.Tests.{ltb-false}
+use Rattle.model.specs.Limits.{giveUp, maxStates}
+use Rattle.model.specs.Lines.{codes, decimalOn, decimalFrom, decimal, blankNumber, blankSigned, answerLine, auditLine, pickOn, lineOn}
+use Rattle.model.specs.Lines.{listed, stateLine, stateLines, runText}
+use Rattle.model.specs.Audit.{Audited, accepted}
+use Rattle.model.specs.Solution.{Answer, solved, spent, refused}
+use Rattle.printing.specs.Texts.{Holds, Brief, lineMost, stateMost}
+
+digits-most : (fuel k n : ℕ) → n < 10 ^ suc k → length (decimalFrom fuel n) ≤ suc k
+unfolding decimalFrom
+digits-most zero k n h = omega arith
+digits-most (suc fuel) k n h = go (ltb n 10) refl k h (λ j. digits-most fuel j (n / 10))
+  where
+    go
+        : (b : Bool) → ltb n 10 ≡ b → (k : ℕ) → n < 10 ^ suc k
+        → ((j : ℕ) → n / 10 < 10 ^ suc j → length (decimalFrom fuel (n / 10)) ≤ suc j)
+        → length (decimalOn b n (decimalFrom fuel)) ≤ suc k
+    go true e k h most = omega arith
+    go false e zero h most = absurd (omega (arith, ltb-false n 10 e))
+    go false e (suc k) h most =
+        let small : n < 10 ^ suc k * 10 = rw (pow-suc 10 (suc k)) at h in
+        omega (arith, length-append (decimalFrom fuel (n / 10)) ((48 + n % 10) ∷ []), most k (omega arith))
+
+pub decimal-most : (k n : ℕ) → n < 10 ^ suc k → length (decimal n) ≤ suc k
+unfolding decimal
+decimal-most k n h = digits-most (suc n) k n h
+
+-- numbers of 64 bits
+wide-most : (n : ℕ) → n < 18446744073709551616 → length (decimal n) ≤ 20
+wide-most n h = decimal-most 19 n (omega arith)
+
+two-most : (a b c : List ℕ) (n m k : ℕ) → length a ≤ n → length b ≤ m → length c ≤ k → length (a ++ b ++ c) ≤ n + m + k
+two-most a b c n m k p q r = omega (arith, length-append (a ++ b) c, length-append a b)
+
+pub counts-most : (word : List ℕ) (a b : ℕ) → length word ≤ 8 → a < 18446744073709551616 → b < 18446744073709551616
+    → length (word ++ blankNumber a ++ blankNumber b) ≤ 50
+counts-most word a b w p q =
+    two-most word (blankNumber a) (blankNumber b) 8 21 21 w (omega (arith, wide-most a p)) (omega (arith, wide-most b q))
+
+-- the lines with one answer
+pub solved-most : (r e C : ℕ) → r < 18446744073709551616 → e < 18446744073709551616 → C < 18446744073709551616
+    → length (answerLine (solved r e C)) ≤ lineMost
+unfolding answerLine
+solved-most r e C p q w =
+    omega (
+      arith,
+      two-most (codes "solved" ++ blankNumber r ++ blankNumber e) (blankNumber C) (codes "\n") 50 21 1
+          (counts-most (codes "solved") r e (omega arith) p q) (omega (arith, wide-most C w)) (omega arith),
+    )
+
+pub spent-most : (r e : ℕ) → r < 18446744073709551616 → e < 18446744073709551616 → length (answerLine (spent r e)) ≤ lineMost
+unfolding answerLine
+spent-most r e p q =
+    omega (
+      arith,
+      length-append (codes "spent" ++ blankNumber r ++ blankNumber e) (codes "\n"),
+      counts-most (codes "spent") r e (omega arith) p q,
+    )
+
+pub refused-most : (q i : ℕ) → q < 18446744073709551616 → i < 18446744073709551616 → length (answerLine (refused q i)) ≤ lineMost
+unfolding answerLine
+refused-most q i p r =
+    omega (
+      arith,
+      length-append (codes "refused" ++ blankNumber q ++ blankNumber i) (codes "\n"),
+      counts-most (codes "refused") q i (omega arith) p r,
+    )
+
+pub accepted-most : (C : ℕ) → C < 18446744073709551616 → length (auditLine (accepted C)) ≤ lineMost
+unfolding auditLine
+accepted-most C p =
+    omega (
+      arith,
+      two-most (codes "accepted") (blankNumber C) (codes "\n") 8 21 1 (omega arith) (omega (arith, wide-most C p)) (omega arith),
+    )
+
+signed-most : (x : ℤ) → mag x < 9223372036854775808 → length (blankSigned x) ≤ 22
+signed-most (pos n) h = omega (arith, wide-most n (omega arith))
+signed-most (negsuc n) h = omega (arith, wide-most (suc n) (omega arith))
+
+pub audit-refused-most : (q i : ℕ) (x : ℤ) → q < 18446744073709551616 → i < 18446744073709551616 → mag x < 9223372036854775808
+    → length (auditLine (Audited.refused q i x)) ≤ lineMost
+unfolding auditLine
+audit-refused-most q i x p r w =
+    omega (
+      arith,
+      two-most (codes "refused" ++ blankNumber q ++ blankNumber i) (blankSigned x) (codes "\n") 50 22 1
+          (counts-most (codes "refused") q i (omega arith) p r) (signed-most x w) (omega arith),
+    )
+
+-- the lines of the states
+pick-most : (b : Bool) (r : ℕ) → r < 65536 → length (pickOn b r) ≤ 7
+pick-most true r h = omega arith
+pick-most false r h = omega (arith, length-append (blankNumber r) (codes "\n"), decimal-most 4 r (omega arith))
+
+state-most : (s v r : ℕ) → s < 10000 → v < 4294967296 → r < 65536 → length (stateLine s v r) ≤ stateMost
+unfolding stateLine
+state-most s v r p q w =
+    omega (
+      arith,
+      two-most (decimal s) (blankNumber v) (pickOn (eqb r giveUp) r) 4 11 7 (decimal-most 3 s (omega arith))
+          (omega (arith, decimal-most 9 v (omega arith))) (pick-most (eqb r giveUp) r w),
+    )
+
+line-most : (b : Bool) (line : List ℕ) (n : ℕ) → length line ≤ n → length (lineOn b line) ≤ n
+line-most true line n h = h
+line-most false line n h = omega arith
+
+module _ (values picks walk : List ℕ) (values-fit : (j : ℕ) → getD values j 0 < 4294967296) (picks-fit : (j : ℕ) → getD picks j 0 < 65536)
+  where
+    lines-most : (k : ℕ) → k ≤ maxStates → length (stateLines values picks walk k) ≤ stateMost * k
+    unfolding stateLines
+    lines-most zero h = omega arith
+    lines-most (suc k) h =
+        let line = stateLine k (getD values k 0) (getD picks k 0) in
+        let short = line-most (listed k walk) line stateMost (state-most k _ _ (omega arith) (values-fit k) (picks-fit k)) in
+        omega (arith, length-append (stateLines values picks walk k) (lineOn (listed k walk) line), lines-most k (omega arith), short)
+
+    pub run-most : (a : Answer) (n : ℕ) → length (answerLine a) ≤ lineMost → Brief (runText a values picks walk n) n
+    run-most a n first h = omega (arith, length-append (answerLine a) (stateLines values picks walk n), first, lines-most n h)
+
+-- a text that fits is not cut
+pub uncut : (out text : List ℕ) (n : ℕ) → Holds out n text → length text ≤ length out → take n out ≡ text
+uncut out text n h l = h .front ∙ take-all (length out) text l

@@ -1,0 +1,170 @@
+// The lines of `plan` and `audit`.
+use crate::text::put;
+use crate::text::put_next;
+use crate::text::put_number;
+use crate::text::put_signed;
+use model::AuditAnswer;
+use model::SolveAnswer;
+ghost use mathlib.Core.Path.{_≡_};
+ghost use mathlib.Core.List.{_++_};
+ghost use Prim.Native.Nat.{_≤_, _<_};
+ghost use lib.ListN.{length, take, getD};
+ghost use Rattle.model.specs.Answers.{answerOf, auditedOf};
+ghost use Rattle.model.specs.Lines.{blankNumber, answerLine, auditLine, listed, lineOn, stateLine, stateLines, runText};
+ghost use Rattle.printing.specs.Texts.{Holds, Brief, lineMost};
+
+// Puts a word and two numbers at the front of `out`.
+fn put_counts(out: &mut [u8], word: &[u8], a: u64, b: u64) -> usize
+    ensures { λ r. ⌜ Holds (now (out .exit)) r (now (word .entry) ++ blankNumber a ++ blankNumber b) ⌝ }
+{
+    let i = put(out, 0, word);
+    let j = put_next(out, i, a);
+    put_next(out, j, b)
+}
+
+// Puts the first line of `plan`: how the run ended, or the refusal.
+fn put_answer(out: &mut [u8], answer: SolveAnswer) -> usize
+    ensures { λ r. ⌜ Holds (now (out .exit)) r (answerLine (answerOf answer)) ⌝ }
+    ensures brief { λ r. ⌜ length (answerLine (answerOf answer)) ≤ lineMost ⌝ }
+{
+    match answer {
+        SolveAnswer::Solved {
+            rounds,
+            evaluations,
+            least,
+        } => {
+            let i = put_counts(out, b"solved", rounds, evaluations);
+            let j = put_next(out, i, least as u64);
+            put(out, j, b"\n")
+        }
+        SolveAnswer::Spent {
+            rounds,
+            evaluations,
+        } => {
+            let i = put_counts(out, b"spent", rounds, evaluations);
+            put(out, i, b"\n")
+        }
+        SolveAnswer::Refused { question, place } => {
+            let i = put_counts(out, b"refused", question as u64, place as u64);
+            put(out, i, b"\n")
+        }
+    }
+}
+
+// Puts a state's line: its number, its value, and its row or `give`.
+fn put_state(out: &mut [u8], at: usize, state: usize, value: u32, pick: u16) -> usize
+    requires { ⌜ at ≤ length (now out) ⌝ }
+    ensures { λ r. ⌜ Holds (now (out .exit)) r (take at (now (out .entry)) ++ stateLine state value pick) ⌝ }
+{
+    let a = put_number(out, at, state as u64);
+    let b = put_next(out, a, value as u64);
+    if pick == 65535 {
+        return put(out, b, b" give\n");
+    }
+    let c = put_next(out, b, pick as u64);
+    put(out, c, b"\n")
+}
+
+// Whether a state stands in a walk list.
+fn is_listed(walk: &[u16], state: usize) -> bool
+    ensures { λ r. ⌜ r ≡ listed state (now (walk .entry)) ⌝ }
+{
+    let mut k = 0;
+    while k < walk.len() {
+        let s = walk[k] as usize;
+        if s == state {
+            return true;
+        }
+        k += 1;
+    }
+    false
+}
+
+// Puts a state's line where it is listed.
+fn put_listed(
+    out: &mut [u8],
+    at: usize,
+    state: usize,
+    values: &[u32],
+    picks: &[u16],
+    walk: &[u16],
+) -> usize
+    requires { ⌜ (at ≤ length (now out)) × (state < length (now values)) × (state < length (now picks)) ⌝ }
+    ensures { λ r.
+        ⌜ Holds
+        (now (out .exit)) r
+        (take at (now (out .entry))
+        ++ lineOn
+        (listed state (now (walk .entry)))
+        (stateLine state (getD (now (values .entry)) state 0) (getD (now (picks .entry)) state 0))) ⌝ }
+{
+    if is_listed(walk, state) {
+        return put_state(out, at, state, values[state], picks[state]);
+    }
+    at
+}
+
+// Puts the lines of the listed states, by state number.
+fn put_states(out: &mut [u8], at: usize, values: &[u32], picks: &[u16], walk: &[u16]) -> usize
+    requires { ⌜ (at ≤ length (now out)) × (length (now walk) ≤ length (now values)) × (length (now walk) ≤ length (now picks)) ⌝ }
+    ensures { λ r.
+        ⌜ Holds
+        (now (out .exit)) r
+        (take at (now (out .entry))
+        ++ stateLines (now (values .entry)) (now (picks .entry)) (now (walk .entry)) (length (now (walk .entry)))) ⌝ }
+{
+    let mut to = at;
+    let mut s = 0;
+    while s < walk.len() {
+        to = put_listed(out, to, s, values, picks, walk);
+        s += 1;
+    }
+    to
+}
+
+// Puts the text of a plan: the answer's line, then a line for each state of the walk list.
+pub fn plan_text(
+    answer: SolveAnswer,
+    values: &[u32],
+    picks: &[u16],
+    walk: &[u16],
+    out: &mut [u8],
+) -> usize
+    requires { ⌜ (length (now walk) ≤ length (now values)) × (length (now walk) ≤ length (now picks)) ⌝ }
+    ensures { λ r.
+        ⌜ Holds
+        (now (out .exit)) r
+        (runText
+        (answerOf answer) (now (values .entry)) (now (picks .entry)) (now (walk .entry)) (length (now (walk .entry)))) ⌝ }
+    ensures brief { λ r.
+        ⌜ Brief
+        (runText
+        (answerOf answer) (now (values .entry)) (now (picks .entry)) (now (walk .entry)) (length (now (walk .entry))))
+        (length (now (walk .entry))) ⌝ }
+{
+    let first = put_answer(out, answer);
+    put_states(out, first, values, picks, walk)
+}
+
+// Puts the line of an audit.
+pub fn audit_text(answer: AuditAnswer, out: &mut [u8]) -> usize
+    ensures { λ r. ⌜ Holds (now (out .exit)) r (auditLine (auditedOf answer)) ⌝ }
+    ensures brief { λ r. ⌜ length (auditLine (auditedOf answer)) ≤ lineMost ⌝ }
+{
+    match answer {
+        AuditAnswer::Accepted { least } => {
+            let i = put(out, 0, b"accepted");
+            let j = put_next(out, i, least as u64);
+            put(out, j, b"\n")
+        }
+        AuditAnswer::Refused {
+            question,
+            place,
+            excess,
+        } => {
+            let i = put_counts(out, b"refused", question as u64, place as u64);
+            let j = put_signed(out, i, excess);
+            put(out, j, b"\n")
+        }
+    }
+}
