@@ -15,6 +15,8 @@ pub mod made;
 pub mod problem;
 pub mod random;
 pub mod solver;
+pub mod table_files;
+pub mod written;
 
 #[cfg(test)]
 mod cases;
