@@ -13,6 +13,7 @@ pub mod listing;
 pub mod loads;
 pub mod made;
 pub mod problem;
+pub mod programs;
 pub mod random;
 pub mod solver;
 pub mod table_files;

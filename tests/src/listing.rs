@@ -31,6 +31,15 @@ pub fn planned(file: &[u8]) -> Planned {
     Planned { lines: head + &state_lines(&tables), tables: Some(tables) }
 }
 
+/// Whether the run of `plan` on a file is refused or ends within so many rounds.
+pub fn ends_within(file: &[u8], rounds: u64) -> bool {
+    let Ok(problem) = Problem::read(file) else {
+        return true;
+    };
+    let run = solve(&problem, rounds, OwnedTables::new(&problem).lend());
+    !matches!(run.answer, Answer::Spent { .. })
+}
+
 /// All that `plan` writes on standard output.
 pub fn plan_lines(file: &[u8]) -> String {
     planned(file).lines
