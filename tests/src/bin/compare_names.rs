@@ -17,6 +17,8 @@ use std::process::{Command, ExitCode};
 
 /// What stands in the folder: P and its tables, a folder, and folders where a part would be written.
 const STANDING: [&str; 6] = ["empty", "file", "folder", "old-picks", "old-values", "taken.part"];
+/// The system's longest path, in bytes.
+const LONGEST_PATH: usize = 4_096;
 /// The bytes of the old tables.
 const OLD: &[u8] = b"as they were";
 /// Runs a program that may write no file longer than so many blocks, as on a disk that is full.
@@ -67,12 +69,13 @@ impl Room {
     /// `plan` with names that cannot both be written: the lines stand all the same, nothing is
     /// written, and the message is about the one at fault.
     fn compare_unwritable(&mut self, values: &OsStr, picks: &OsStr, at_fault: &OsStr) {
-        self.tally.case = format!("plan {values:?} {picks:?}");
+        self.tally.case =
+            format!("plan {:.40?} {:.40?}", values.to_string_lossy(), picks.to_string_lossy());
         self.tally.count("names that cannot be written");
         let file = file_p().bytes();
         let said = self.plan.run(&self.folder, &[values, picks], &file);
         self.tally.hold("the lines", &said.output, &plan_lines(&file));
-        self.hold_message(&said.messages, &format!("plan: {}: ", at_fault.to_string_lossy()));
+        self.hold_message(&said.messages, &front("plan", &at_fault.to_string_lossy()));
         if picks.is_empty() {
             self.put_back(values.to_str().expect("a plain name"));
         }
@@ -90,8 +93,7 @@ impl Room {
 
     /// All names that cannot be written, each for values and for picks.
     fn compare_all_unwritable(&mut self) {
-        let long = "n".repeat(300);
-        let longer = "deep/".repeat(2_000);
+        let (long, longer) = long_names();
         for name in ["nowhere/table", "folder", "file/table", "taken", "", &long, &longer] {
             for other in ["new", "old-values"] {
                 let (name, other) = (OsStr::new(name), OsStr::new(other));
@@ -151,16 +153,16 @@ impl Room {
 
     /// `audit` with a name that cannot be read at each place: a message, and no verdict.
     fn compare_unreadable(&mut self) {
-        let long = "n".repeat(300);
-        for unreadable in ["missing", "folder", "nowhere/file", "file/file", "", &long] {
+        let (long, longer) = long_names();
+        for unreadable in ["missing", "folder", "nowhere/file", "file/file", "", &long, &longer] {
             for place in 0..3 {
                 let mut names = ["file", "old-values", "old-picks"];
                 names[place] = unreadable;
-                self.tally.case = format!("audit {names:?}");
+                self.tally.case = format!("audit, {unreadable:.40} at {place}");
                 self.tally.count("names that cannot be read");
                 let said = self.audit.run(&self.folder, &names, &[]);
                 self.tally.hold("the verdict", said.output.as_str(), "");
-                self.hold_message(&said.messages, &format!("audit: {unreadable}: "));
+                self.hold_message(&said.messages, &front("audit", unreadable));
                 self.hold_folder();
             }
         }
@@ -212,6 +214,19 @@ impl Room {
             }
             self.hold_folder();
         }
+    }
+}
+
+/// A name longer than a folder holds, and one longer than any path.
+fn long_names() -> (String, String) {
+    ("n".repeat(300), "deep/".repeat(2_000))
+}
+
+/// How a message about a name begins. One that is longer than any path need not be repeated.
+fn front(program: &str, name: &str) -> String {
+    match name.len() > LONGEST_PATH {
+        true => format!("{program}: "),
+        false => format!("{program}: {name}: "),
     }
 }
 

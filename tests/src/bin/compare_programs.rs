@@ -228,7 +228,7 @@ fn draft_of(random: &mut Random, number: u64) -> Draft {
 
 fn main() -> ExitCode {
     let (plan, audit) = (Program::named(1, "plan"), Program::named(2, "audit"));
-    let (seed, files) = (argument(3, 1), argument(4, 500));
+    let (seed, files) = (argument(3, 1), argument(4, 300));
     let folder = Folder::new("compare-programs");
     let mut day = Day { plan, audit, folder, tally: Tally::default() };
     day.compare_p();
