@@ -229,6 +229,41 @@ fn outcomes_of(outcomes: &str) -> Result<Vec<(String, u16)>, String> {
 #[cfg(test)]
 mod tests {
     use super::*;
+    use crate::made::made;
+    use crate::random::Random;
+
+    /// A draft as a text.
+    fn text_of(draft: &Draft) -> String {
+        let [start, tolerance, penalty] = draft.settings[..] else { panic!("three settings") };
+        let mut text = format!("start s{start}\ntolerance {tolerance}\npenalty {penalty}\n");
+        let (mut rows, mut outcomes) = (draft.rows.iter(), draft.outcomes.iter());
+        for (number, state) in draft.states.iter().enumerate() {
+            text += &match state.goal {
+                1 => format!("goal s{number}\n"),
+                _ => format!("state s{number} estimate {}\n", state.estimate),
+            };
+            for row in rows.by_ref().take(usize::from(state.rows)) {
+                let outcome = |item: &OutcomeItem| format!("s{} {}", item.successor, item.weight);
+                let outcomes = outcomes.by_ref().take(usize::from(row.outcomes)).map(outcome);
+                let outcomes = outcomes.collect::<Vec<String>>().join(", ");
+                text += &match row.kind {
+                    KIND_RATE => format!("row rate {}: {outcomes}\n", row.cost),
+                    _ => format!("row {} s: {outcomes}\n", row.cost),
+                };
+            }
+        }
+        text
+    }
+
+    #[test]
+    fn any_problem_can_be_written() {
+        let mut random = Random::new(5);
+        for _ in 0..500 {
+            let draft = made(&mut random);
+            let read = Written::read(&text_of(&draft)).expect("whole").draft;
+            assert_eq!(read.bytes(), draft.bytes());
+        }
+    }
 
     /// The settings of the texts below, on three lines.
     const SETTINGS: &str = "start a\ntolerance 1\npenalty 5\n";
