@@ -6,7 +6,12 @@
 use std::process::ExitCode;
 
 extern "C" {
-    fn cuulipso_check(file: *const u8, file_length: usize, answer: *mut u64, answer_length: usize) -> u8;
+    fn cuulipso_check(
+        file: *const u8,
+        file_length: usize,
+        answer: *mut u64,
+        answer_length: usize,
+    ) -> u8;
     fn cuulipso_solve(
         file: *const u8,
         file_length: usize,
@@ -55,8 +60,13 @@ struct Tables {
 fn check(file: &[u8]) -> Result<(), [u64; 3]> {
     let mut answer = [0; 3];
     // SAFETY: each pointer stands with its table's own length, here and below.
-    let code = unsafe { cuulipso_check(file.as_ptr(), file.len(), answer.as_mut_ptr(), answer.len()) };
-    if code == REFUSED { Err(answer) } else { Ok(()) }
+    let code =
+        unsafe { cuulipso_check(file.as_ptr(), file.len(), answer.as_mut_ptr(), answer.len()) };
+    if code == REFUSED {
+        Err(answer)
+    } else {
+        Ok(())
+    }
 }
 
 /// Solves a file that passed: the code, and rounds, evaluations and C.
@@ -99,7 +109,11 @@ fn audit(file: &[u8], tables: &Tables) -> Result<i64, [i64; 3]> {
             answer.len(),
         )
     };
-    if code == ACCEPTED { Ok(answer[0]) } else { Err(answer) }
+    if code == ACCEPTED {
+        Ok(answer[0])
+    } else {
+        Err(answer)
+    }
 }
 
 /// Prints the states of the last walk, in the order of the walk.
@@ -132,7 +146,12 @@ fn main() -> ExitCode {
         return ExitCode::SUCCESS;
     }
     println!("check: passed");
-    let mut tables = Tables { values: [0; 1_024], picks: [0; 1_024], remembered: [0; 4_096], walk: [NO_STATE; 1_024] };
+    let mut tables = Tables {
+        values: [0; 1_024],
+        picks: [0; 1_024],
+        remembered: [0; 4_096],
+        walk: [NO_STATE; 1_024],
+    };
     let (code, [rounds, evaluations, least]) = solve(&file, &mut tables);
     let word = if code == SOLVED { "solved" } else { "spent" };
     println!("solve: {word}, {rounds} rounds, {evaluations} evaluations, C {least}");

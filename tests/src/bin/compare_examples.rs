@@ -1,6 +1,6 @@
 //! Compiles the C and the Rust example as `README.md` says, runs both on files of `examples` and on
-//! others, and holds what they print against the solver and the audit written apart. Holds also the
-//! outputs that `stick.md` and `README.md` show.
+//! others, and holds what they print against the solver and the audit written apart. Holds also what
+//! `stick.md` and `README.md` show.
 //!
 //! `compare_examples`
 
@@ -19,25 +19,34 @@ use std::process::{Command, ExitCode};
 
 /// The top of the repository.
 const TOP: &str = concat!(env!("CARGO_MANIFEST_DIR"), "/..");
-/// The commands that compile the examples, from the top; the name of the program comes last.
-const COMPILERS: [(&str, &str); 2] = [
-    (
-        "c",
-        "gcc -std=c11 -Wall -Wextra -Wpedantic -Werror -O2 -Iexamples/c \
-         examples/c/plan_and_audit.c target/staticlib/libcapi.a -o",
-    ),
-    (
-        "rust",
-        "rustc --edition 2021 -D warnings -O examples/rust/plan_and_audit.rs \
-         -C link-arg=target/staticlib/libcapi.a -o",
-    ),
+/// How an example is compiled: the language, the command that `README.md` shows, from the top of the
+/// repository, and words that make the compiler strict.
+struct Example {
+    name: &'static str,
+    command: &'static str,
+    strict: &'static str,
+}
+
+/// The examples.
+const EXAMPLES: [Example; 2] = [
+    Example {
+        name: "c",
+        command: "gcc -O2 -Iexamples/c examples/c/plan_and_audit.c target/staticlib/libcapi.a",
+        strict: "-std=c11 -Wall -Wextra -Wpedantic -Werror",
+    },
+    Example {
+        name: "rust",
+        command: "rustc -O examples/rust/plan_and_audit.rs -C link-arg=target/staticlib/libcapi.a",
+        strict: "-D warnings",
+    },
 ];
 
 /// Compiles an example into the folder.
-fn compile(folder: &Folder, name: &str, command: &str) {
-    let mut words = command.split_whitespace();
+fn compile(folder: &Folder, example: &Example) {
+    let mut words = example.command.split(' ');
     let mut compiler = Command::new(words.next().expect("a compiler"));
-    compiler.args(words).arg(folder.path(name)).current_dir(TOP);
+    compiler.args(words).args(example.strict.split(' '));
+    compiler.arg("-o").arg(folder.path(example.name)).current_dir(TOP);
     let status = compiler.status().unwrap_or_else(|error| panic!("{compiler:?}: {error}"));
     assert!(status.success(), "{compiler:?}");
 }
@@ -95,7 +104,7 @@ fn example_text(file: &[u8]) -> String {
 /// Runs both examples on a file.
 fn compare(tally: &mut Tally, folder: &Folder, case: &str, file: &[u8]) {
     folder.put("file", Some(file));
-    for (name, _) in COMPILERS {
+    for Example { name, .. } in EXAMPLES {
         tally.case = format!("the {name} example on {case}");
         tally.count("runs of an example");
         let said = said(start(Command::new(folder.path(name)).arg(folder.path("file"))));
@@ -113,14 +122,14 @@ fn block(text: &str) -> String {
 /// Holds that a page shows a text, as a block.
 fn hold_shown(tally: &mut Tally, page: &str, text: &str) {
     tally.case = page.into();
-    tally.count("outputs shown on pages");
+    tally.count("texts shown on pages");
     let shown = std::fs::read_to_string(path(page)).expect("a page");
-    let given = if shown.contains(&block(text)) { text } else { "not shown" };
+    let given = if shown.contains(block(text).trim_end()) { text } else { "not shown" };
     tally.hold("what it shows", given, text);
 }
 
-/// The outputs on the pages: the stick's listing, plan and audits; P's lines and what the examples
-/// print of it.
+/// What the pages show: the stick's listing, plan and audits; P's text and lines, what the examples
+/// print of it, and how they are compiled.
 fn compare_pages(tally: &mut Tally) {
     let file = stick().bytes();
     let tables = planned(&file).tables.expect("the stick passes");
@@ -136,13 +145,16 @@ fn compare_pages(tally: &mut Tally) {
     hold_shown(tally, "../README.md", TEXTS[0].1);
     hold_shown(tally, "../README.md", &plan_lines(&p));
     hold_shown(tally, "../README.md", &example_text(&p));
+    for example in &EXAMPLES {
+        hold_shown(tally, "../README.md", example.command);
+    }
 }
 
 fn main() -> ExitCode {
     let mut tally = Tally::default();
     let folder = Folder::new("compare-examples");
-    for (name, command) in COMPILERS {
-        compile(&folder, name, command);
+    for example in &EXAMPLES {
+        compile(&folder, example);
     }
     for (name, _) in TEXTS {
         let file = std::fs::read(path(name)).expect("an example");

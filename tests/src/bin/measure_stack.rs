@@ -14,6 +14,12 @@ use comparisons::table_files::{picks_bytes, values_bytes};
 use std::process::Command;
 
 extern "C" {
+    fn cuulipso_check(
+        file: *const u8,
+        file_length: usize,
+        answer: *mut u64,
+        answer_length: usize,
+    ) -> u8;
     fn cuulipso_solve(
         file: *const u8,
         file_length: usize,
@@ -95,6 +101,15 @@ fn audit(file: &[u8], tables: &OwnedTables) {
     assert_eq!(code, 3, "accepted");
 }
 
+/// The product's check of the file.
+fn check(file: &[u8]) {
+    let mut answer = [0; 3];
+    // SAFETY: each pointer stands with its table's own length.
+    let code =
+        unsafe { cuulipso_check(file.as_ptr(), file.len(), answer.as_mut_ptr(), answer.len()) };
+    assert_eq!(code, 3, "passed");
+}
+
 /// A child's part: the named function on a thread with so many KiB of stack.
 fn child(function: &str, kib: &str) {
     let function = function.to_string();
@@ -104,7 +119,8 @@ fn child(function: &str, kib: &str) {
     let thread = std::thread::Builder::new().stack_size(stack);
     let work = move || match function.as_str() {
         "solve" => solve(&file, &mut tables),
-        _ => audit(&file, &tables),
+        "audit" => audit(&file, &tables),
+        _ => check(&file),
     };
     thread.spawn(work).expect("a thread").join().expect("it ends well");
     print!("{DONE}");
@@ -153,7 +169,7 @@ fn main() {
         assert_eq!(word, "child");
         return child(function, kib);
     }
-    for function in ["solve", "audit"] {
+    for function in ["solve", "audit", "check"] {
         println!("cuulipso_{function}: {} KiB of stack", least(|kib| library_does(function, kib)));
     }
     let file = deepest().bytes();
