@@ -26,6 +26,8 @@ const DAMAGES: usize = 6;
 const LEAST_MET: u64 = 20;
 /// Files and tables far longer than any that could be meant, in bytes.
 const VERY_LONG: usize = 5_000_000;
+/// Lengths of files that hold more than they should: about a buffer of 65,536 bytes, and far above.
+const FILE_LENGTHS: [usize; 4] = [65_535, 65_536, 65_537, VERY_LONG];
 /// The names of the tables in the folder.
 const NAMES: [&str; 2] = ["values", "picks"];
 
@@ -142,28 +144,35 @@ impl Day {
             let file = draft.bytes();
             let tables = planned(&file).tables.expect("not refused");
             let tables = [values_bytes(&tables.values), picks_bytes(&tables.picks)];
-            for (at, filler) in [(0, 0), (1, 0), (0, 255), (1, 255)] {
-                self.tally.case = format!("{case}, table {at} very long");
-                let mut long = tables.clone();
-                long[at].resize(VERY_LONG + 1, filler);
-                self.folder.put("file", Some(&file));
-                self.audit(&file, &long);
+            self.compare_long_tables(case, &file, &tables);
+            for length in FILE_LENGTHS {
+                self.tally.case = format!("{case}, the file with {length} bytes");
+                let mut long = file.clone();
+                long.resize(length, 0);
+                self.folder.put("file", Some(&long));
+                self.audit(&long, &tables);
+                self.plan(&long, &[None, None]);
             }
-            for at in [0, 1] {
-                self.tally.case = format!("{case}, table {at} empty");
-                let mut empty = tables.clone();
-                empty[at].clear();
-                self.audit(&file, &empty);
-            }
-            self.tally.case = format!("{case}, the file very long");
-            let mut long = file.clone();
-            long.resize(VERY_LONG, 0);
-            self.folder.put("file", Some(&long));
-            self.audit(&long, &tables);
-            self.plan(&long, &[None, None]);
         }
         for (case, file) in [("empty", vec![]), ("noise", noise(random, VERY_LONG))] {
             self.compare(random, case, &file);
+        }
+    }
+
+    /// Either table very long, with zeros and with the highest entries, and empty.
+    fn compare_long_tables(&mut self, case: &str, file: &[u8], tables: &Tables) {
+        self.folder.put("file", Some(file));
+        for (at, filler) in [(0, 0), (1, 0), (0, 255), (1, 255)] {
+            self.tally.case = format!("{case}, table {at} very long");
+            let mut long = tables.clone();
+            long[at].resize(VERY_LONG + 1, filler);
+            self.audit(file, &long);
+        }
+        for at in [0, 1] {
+            self.tally.case = format!("{case}, table {at} empty");
+            let mut empty = tables.clone();
+            empty[at].clear();
+            self.audit(file, &empty);
         }
     }
 }
