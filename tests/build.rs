@@ -3,8 +3,8 @@
 
 use std::path::PathBuf;
 
-/// The programs that call the product's C interface. Each declares only the functions it uses, so
-/// each links as soon as the archive has those.
+/// The programs that call the product's C interface, through `library.rs`. Each links as soon as the
+/// archive has the functions that it calls.
 const CALLERS: [&str; 5] =
     ["compare_reading", "compare_solving", "compare_audit", "bench", "measure_stack"];
 

@@ -8,6 +8,7 @@ pub mod damage;
 pub mod encode;
 pub mod examples;
 pub mod harness;
+pub mod library;
 pub mod limits;
 pub mod listing;
 pub mod loads;

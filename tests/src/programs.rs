@@ -13,6 +13,13 @@ pub struct Said {
     pub messages: String,
 }
 
+impl Said {
+    /// An output, and no message.
+    pub fn only(output: impl Into<String>) -> Said {
+        Said { output: output.into(), messages: String::new() }
+    }
+}
+
 /// A program that stands at a path.
 pub struct Program(PathBuf);
 

@@ -108,7 +108,7 @@ fn compare(tally: &mut Tally, folder: &Folder, case: &str, file: &[u8]) {
         tally.case = format!("the {name} example on {case}");
         tally.count("runs of an example");
         let said = said(start(Command::new(folder.path(name)).arg(folder.path("file"))));
-        let asked = Said { output: example_text(file), messages: String::new() };
+        let asked = Said::only(example_text(file));
         tally.hold("what it prints", &said, &asked);
     }
 }

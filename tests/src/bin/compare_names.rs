@@ -82,8 +82,9 @@ impl Room {
         self.hold_folder();
     }
 
-    /// An empty name takes a part and refuses only to become its name, when the other table may
-    /// have its own name already. Where that one is whole it is put back as it was.
+    /// Takes away the values that `plan` wrote beside an empty name for picks. The part of an empty
+    /// name, `.part`, can be written, and only its renaming fails; by then the values have their
+    /// name. They must be whole, and what stood there before is put back.
     fn put_back(&mut self, other: &str) {
         let tables = planned(&file_p().bytes()).tables.expect("P passes");
         if self.folder.get(other) == Some(values_bytes(&tables.values)) {
@@ -138,7 +139,7 @@ impl Room {
         let odd: OsString = OsStringExt::from_vec(vec![b' ', 0xff, b'*', b'\n']);
         let below = OsString::from("folder/picks");
         let said = self.plan.run(&self.folder, &[&odd, &below], &file);
-        let asked = Said { output: plan_lines(&file), messages: String::new() };
+        let asked = Said::only(plan_lines(&file));
         self.tally.hold("the lines", &said, &asked);
         self.tally.hold("values", &self.folder.get(&odd), &Some(values_bytes(&tables.values)));
         self.tally.hold("picks", &self.folder.get(&below), &Some(picks_bytes(&tables.picks)));
@@ -178,7 +179,7 @@ impl Room {
             self.tally.case = format!("audit {names:?}");
             self.tally.count("empty files");
             let said = self.audit.run(&self.folder, &names, &[]);
-            let asked = Said { output: asked.into(), messages: String::new() };
+            let asked = Said::only(asked);
             self.tally.hold("the verdict", &said, &asked);
         }
     }
@@ -222,7 +223,8 @@ fn long_names() -> (String, String) {
     ("n".repeat(300), "deep/".repeat(2_000))
 }
 
-/// How a message about a name begins. One that is longer than any path need not be repeated.
+/// How a message about a name begins. One that is longer than any path is not repeated whole: `plan`
+/// writes VALUES or PICKS in its place, `audit` the front of it, so no name is asked for then.
 fn front(program: &str, name: &str) -> String {
     match name.len() > LONGEST_PATH {
         true => format!("{program}: "),

@@ -71,7 +71,7 @@ fn main() -> ExitCode {
     let mut tally = Tally::default();
     compare_set_files(&mut tally, &program);
     for number in 0..files {
-        let mut random = Random::new(seed ^ (number << 20));
+        let mut random = Random::of_file(seed, number);
         let draft = made(&mut random);
         let broken = random.once_in(4);
         let file = if broken { damaged(&mut random, &draft) } else { draft.bytes() };

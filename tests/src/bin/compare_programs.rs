@@ -50,7 +50,7 @@ impl Day {
             self.folder.put(name, bytes.as_deref());
         }
         let said = self.plan.run(&self.folder, &NAMES, file);
-        let lines = Said { output: asked.lines.clone(), messages: String::new() };
+        let lines = Said::only(asked.lines.clone());
         self.tally.hold("plan's lines", &said, &lines);
         let after = match &asked.tables {
             Some(tables) => [Some(values_bytes(&tables.values)), Some(picks_bytes(&tables.picks))],
@@ -74,7 +74,7 @@ impl Day {
             Verdict::Refused { question, .. } => self.tally.meet(question),
         }
         let said = self.audit.run(&self.folder, &["file", NAMES[0], NAMES[1]], &[]);
-        let line = Said { output: audit_line(verdict), messages: String::new() };
+        let line = Said::only(audit_line(verdict));
         self.tally.hold("audit's line", &said, &line);
         verdict
     }
@@ -243,7 +243,7 @@ fn main() -> ExitCode {
     day.compare_p();
     day.compare_lengths(&mut Random::new(seed));
     for number in 0..files {
-        let mut random = Random::new(seed ^ (number << 20));
+        let mut random = Random::of_file(seed, number);
         let draft = draft_of(&mut random, number);
         let broken = number > 17 && random.once_in(5);
         let file = if broken { damaged(&mut random, &draft) } else { draft.bytes() };

@@ -5,6 +5,7 @@
 //! `measure_stack [plan] [audit]`
 
 use comparisons::audit::Verdict;
+use comparisons::library::{self, ACCEPTED, ANSWER, PASSED, SOLVED};
 use comparisons::limits::PLAN_ROUNDS;
 use comparisons::listing::{audit_line, planned};
 use comparisons::made::deepest;
@@ -12,40 +13,6 @@ use comparisons::programs::{run, said, start, Folder, Program};
 use comparisons::solver::OwnedTables;
 use comparisons::table_files::{picks_bytes, values_bytes};
 use std::process::Command;
-
-extern "C" {
-    fn cuulipso_check(
-        file: *const u8,
-        file_length: usize,
-        answer: *mut u64,
-        answer_length: usize,
-    ) -> u8;
-    fn cuulipso_solve(
-        file: *const u8,
-        file_length: usize,
-        budget: u64,
-        values: *mut u32,
-        values_length: usize,
-        picks: *mut u16,
-        picks_length: usize,
-        remembered: *mut u32,
-        remembered_length: usize,
-        walk: *mut u16,
-        walk_length: usize,
-        answer: *mut u64,
-        answer_length: usize,
-    ) -> u8;
-    fn cuulipso_audit(
-        file: *const u8,
-        file_length: usize,
-        values: *const u32,
-        values_length: usize,
-        picks: *const u16,
-        picks_length: usize,
-        answer: *mut i64,
-        answer_length: usize,
-    ) -> u8;
-}
 
 /// The steps of the measuring, in KiB: a page.
 const STEP: u64 = 4;
@@ -58,56 +25,20 @@ const LIMITED: &str = "ulimit \"$1\" \"$2\"; shift 2; exec \"$@\"";
 
 /// The product's run on the file.
 fn solve(file: &[u8], tables: &mut OwnedTables) {
-    let mut answer = [0; 3];
-    let OwnedTables { values, picks, remembered, walk } = tables;
-    // SAFETY: each pointer stands with its table's own length.
-    let code = unsafe {
-        cuulipso_solve(
-            file.as_ptr(),
-            file.len(),
-            PLAN_ROUNDS,
-            values.as_mut_ptr(),
-            values.len(),
-            picks.as_mut_ptr(),
-            picks.len(),
-            remembered.as_mut_ptr(),
-            remembered.len(),
-            walk.as_mut_ptr(),
-            walk.len(),
-            answer.as_mut_ptr(),
-            answer.len(),
-        )
-    };
-    assert_eq!(code, 1, "solved");
+    let code = library::solve(file, PLAN_ROUNDS, tables.lend(), &mut [0; ANSWER]);
+    assert_eq!(code, SOLVED);
 }
 
 /// The product's audit of the tables.
 fn audit(file: &[u8], tables: &OwnedTables) {
-    let mut answer = [0; 3];
-    let OwnedTables { values, picks, .. } = tables;
-    // SAFETY: each pointer stands with its table's own length.
-    let code = unsafe {
-        cuulipso_audit(
-            file.as_ptr(),
-            file.len(),
-            values.as_ptr(),
-            values.len(),
-            picks.as_ptr(),
-            picks.len(),
-            answer.as_mut_ptr(),
-            answer.len(),
-        )
-    };
-    assert_eq!(code, 3, "accepted");
+    let code = library::audit(file, &tables.values, &tables.picks, &mut [0; ANSWER]);
+    assert_eq!(code, ACCEPTED);
 }
 
 /// The product's check of the file.
 fn check(file: &[u8]) {
-    let mut answer = [0; 3];
-    // SAFETY: each pointer stands with its table's own length.
-    let code =
-        unsafe { cuulipso_check(file.as_ptr(), file.len(), answer.as_mut_ptr(), answer.len()) };
-    assert_eq!(code, 3, "passed");
+    let code = library::check(file, &mut [0; ANSWER]);
+    assert_eq!(code, PASSED);
 }
 
 /// A child's part: the named function on a thread with so many KiB of stack.
