@@ -1,11 +1,12 @@
 //! Links the product's archive to the programs that call it, and to no other: the library's own
-//! tests, `compare_plan` and `make_examples` are built where no archive stands.
+//! tests, `make_file` and the comparisons of programs are built where no archive stands.
 
 use std::path::PathBuf;
 
-/// The programs that call the product's C interface. Each declares only the functions it uses, so
-/// each links as soon as the archive has those.
-const CALLERS: [&str; 4] = ["compare_reading", "compare_solving", "compare_audit", "bench"];
+/// The programs that call the product's C interface, through `library.rs`. Each links as soon as the
+/// archive has the functions that it calls.
+const CALLERS: [&str; 5] =
+    ["compare_reading", "compare_solving", "compare_audit", "bench", "measure_stack"];
 
 /// The folder of `libcapi.a`: the one named in `CAPI_DIR`, or the repository's own.
 fn archive_folder() -> PathBuf {

@@ -143,13 +143,3 @@ fn no_row_value_outgrows_32_bits() {
     let most = u64::from(TICKS) * u64::from(MAX_PENALTY);
     assert!(dearest + most <= u64::from(u32::MAX));
 }
-
-#[test]
-fn the_examples_folder_holds_the_papers_files() {
-    let stored = |name: &str| {
-        let path = format!("{}/../examples/{name}", env!("CARGO_MANIFEST_DIR"));
-        std::fs::read(path).expect("an example")
-    };
-    assert_eq!(stored("P"), file_p().bytes());
-    assert_eq!(stored("one-state"), one_state().bytes());
-}

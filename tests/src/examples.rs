@@ -1,25 +1,66 @@
-//! The two files that document 01 spells out.
+//! The files of the repository's `examples` folder, from their readable texts.
 
 use crate::encode::Draft;
-use crate::limits::{KIND_RATE, KIND_SECONDS};
+use crate::written::Written;
 
-/// "File P: start 0, e 1, D 5,000, all H 0; states 0 (two rows), 1 (one row), 2 goal. Row 0: 100 s,
-/// to 1 weight 900, to 2 weight 100. Row 1: rate 1,000, to 2 weight 1,000. Row 2: 300 s, to 2
-/// weight 1,000."
+/// The readable texts and the files beside them, by name.
+pub const TEXTS: [(&str, &str); 3] = [
+    ("P", include_str!("../../examples/P.txt")),
+    ("one-state", include_str!("../../examples/one-state.txt")),
+    ("stick", include_str!("../../examples/stick.txt")),
+];
+
+/// The draft behind the text at a place.
+fn draft_of(place: usize) -> Draft {
+    let (name, text) = TEXTS[place];
+    Written::read(text).unwrap_or_else(|fault| panic!("{name}.txt, {fault}")).draft
+}
+
+/// "File P", the paper's worked example.
 pub fn file_p() -> Draft {
-    let mut draft = Draft::new(0, 1, 5_000);
-    draft.add_state();
-    draft.add_row(KIND_SECONDS, 100, &[(1, 900), (2, 100)]);
-    draft.add_row(KIND_RATE, 1_000, &[(2, 1_000)]);
-    draft.add_state();
-    draft.add_row(KIND_SECONDS, 300, &[(2, 1_000)]);
-    draft.add_goal();
-    draft
+    draft_of(0)
 }
 
 /// "One state, no goal, no rows, e 1, D 1, H 0."
 pub fn one_state() -> Draft {
-    let mut draft = Draft::new(0, 1, 1);
-    draft.add_state();
-    draft
+    draft_of(1)
+}
+
+/// A stick on its day in the melt room; `stick.md` tells it.
+pub fn stick() -> Draft {
+    draft_of(2)
+}
+
+/// The path of a file of the folder.
+pub fn path(name: &str) -> String {
+    format!("{}/../examples/{name}", env!("CARGO_MANIFEST_DIR"))
+}
+
+#[cfg(test)]
+mod tests {
+    use super::*;
+    use crate::limits::{KIND_RATE, KIND_SECONDS};
+
+    /// "File P: start 0, e 1, D 5,000, all H 0; states 0 (two rows), 1 (one row), 2 goal. Row 0:
+    /// 100 s, to 1 weight 900, to 2 weight 100. Row 1: rate 1,000, to 2 weight 1,000. Row 2: 300 s,
+    /// to 2 weight 1,000."
+    #[test]
+    fn p_is_as_the_paper_says() {
+        let mut asked = Draft::new(0, 1, 5_000);
+        asked.add_state();
+        asked.add_row(KIND_SECONDS, 100, &[(1, 900), (2, 100)]);
+        asked.add_row(KIND_RATE, 1_000, &[(2, 1_000)]);
+        asked.add_state();
+        asked.add_row(KIND_SECONDS, 300, &[(2, 1_000)]);
+        asked.add_goal();
+        assert_eq!(file_p().bytes(), asked.bytes());
+    }
+
+    #[test]
+    fn each_file_is_what_its_text_makes() {
+        for (place, (name, _)) in TEXTS.iter().enumerate() {
+            let stored = std::fs::read(path(name)).expect("an example");
+            assert_eq!(stored, draft_of(place).bytes(), "{name}");
+        }
+    }
 }

@@ -8,13 +8,17 @@ pub mod damage;
 pub mod encode;
 pub mod examples;
 pub mod harness;
+pub mod library;
 pub mod limits;
 pub mod listing;
 pub mod loads;
 pub mod made;
 pub mod problem;
+pub mod programs;
 pub mod random;
 pub mod solver;
+pub mod table_files;
+pub mod written;
 
 #[cfg(test)]
 mod cases;

@@ -280,6 +280,22 @@ pub fn deep_chain(random: &mut Random, states: usize, outcomes: usize, with_goal
     draft
 }
 
+/// A chain at all three limits, each state reached by the row before: the deepest walk in the
+/// largest file. Ends in a goal; the start has the four rows that it lacks.
+pub fn deepest() -> Draft {
+    let mut draft = Draft::new(0, 1, MAX_PENALTY);
+    let rows_each = (MAX_ROWS / MAX_STATES) as u16;
+    for state in 0..MAX_STATES as u16 - 1 {
+        draft.add_state();
+        let extra = if state == 0 { rows_each } else { 0 };
+        for cost in 1..=rows_each + extra {
+            draft.add_row(KIND_SECONDS, cost, &[(state, 1), (state + 1, 999)]);
+        }
+    }
+    draft.add_goal();
+    draft
+}
+
 /// A file whose run is still going after 1,000,000 rounds: a loop that is left about once in
 /// 200,000 moves, at one second a move.
 pub fn endless() -> Draft {
@@ -295,6 +311,7 @@ pub fn endless() -> Draft {
 #[cfg(test)]
 mod tests {
     use super::*;
+    use crate::listing::plan_lines;
 
     #[test]
     fn made_files_are_whole() {
@@ -314,6 +331,14 @@ mod tests {
             assert!(Problem::read(&draft.bytes()).is_ok());
             assert!(Problem::read(&deep_chain(&mut random, 1_024, 8, with_goal).bytes()).is_ok());
         }
+    }
+
+    #[test]
+    fn the_deepest_file_is_at_the_limits() {
+        let problem = Problem::read(&deepest().bytes()).expect("whole");
+        assert_eq!((problem.states.len(), problem.rows.len()), (MAX_STATES, MAX_ROWS));
+        assert_eq!(problem.outcomes.len(), MAX_OUTCOMES);
+        assert_eq!(plan_lines(&deepest().bytes()).lines().count(), MAX_STATES);
     }
 
     #[test]

@@ -10,6 +10,11 @@ impl Random {
         Random(seed)
     }
 
+    /// The generator of the file with a number, under a program's seed.
+    pub fn of_file(seed: u64, number: u64) -> Random {
+        Random(seed ^ (number << 20))
+    }
+
     /// The next 64 bits.
     pub fn bits(&mut self) -> u64 {
         self.0 = self.0.wrapping_add(0x9e37_79b9_7f4a_7c15);

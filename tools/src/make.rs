@@ -204,10 +204,11 @@ impl<'a> Maker<'a> {
         let bound = |m: &Member| {
             let (d, n) = (dashed(&m.name), &m.lts.lifetimes);
             let ps = format!("{n} {d}-kinds.ps");
-            [
-                format!("abbrev {d}-at : nat.ℕ → kinds.In {ps}\n{d}-at t = cycle.and {ps} (cycle.is {ps} μ-{d} t) {d}-reads.Pre"),
-                format!("abbrev {d}-below : nat.ℕ → kinds.In {ps}\n{d}-below t = cycle.and {ps} (cycle.falls {ps} nat._<_ μ-{d} t) {d}-reads.Pre"),
-            ]
+            let at = |name: &str, which: &str| {
+                let line = format!("{d}-{name} t = cycle.and {ps} ({which} μ-{d} t) {d}-reads.Pre");
+                format!("abbrev {d}-{name} : nat.ℕ → kinds.In {ps}\n{line}")
+            };
+            [at("at", &format!("cycle.is {ps}")), at("below", &format!("cycle.falls {ps} nat._<_"))]
         };
         self.unit.members.iter().flat_map(bound).collect()
     }
@@ -234,7 +235,9 @@ impl<'a> Maker<'a> {
             }
         }
         if !open.is_empty() {
-            self.fault(1, &format!("no answer for {}; a line `default = search needs` answers every need that has no line", open.join(", ")));
+            let open = open.join(", ");
+            let advice = "a line `default = search needs` answers every need that has no line";
+            self.fault(1, &format!("no answer for {open}; {advice}"));
         }
         out
     }
@@ -303,8 +306,8 @@ impl<'a> Maker<'a> {
 
     fn cycle_uses(&self) -> Vec<String> {
         let (unit, module) = (self.unit, self.unit.module());
-        let mut lines: Vec<String> =
-            ["Prim.Native.Nat as nat", "borrow.Fn.Kinds as kinds", "borrow.Fn.PlainCycle as cycle"].iter().map(|u| format!("use {u}")).collect();
+        let always = ["Prim.Native.Nat as nat", "borrow.Fn.Kinds as kinds", "borrow.Fn.PlainCycle as cycle"];
+        let mut lines: Vec<String> = always.iter().map(|u| format!("use {u}")).collect();
         for member in &unit.members {
             let (own, d) = (unit.beside(&member.name), dashed(&member.name));
             lines.push(format!("use {own}.Reads as {d}-reads"));

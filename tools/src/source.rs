@@ -1,4 +1,4 @@
-//! Reads a function's source for one thing: which variabfound.iter().map(|l| l.scope.iter().map(|v| v.name.as_str()).collect::<Vec<_>>().join(" ")).collect()es are in scope at each loop.
+//! Reads a function's source for one thing: which variables are in scope at each loop.
 //!
 //! The generated places name the parameters and the variables that a loop changes. The names of the
 //! other locals that an invariant takes stand in the source alone.

@@ -7,7 +7,8 @@ use crate::make::make;
 use crate::source;
 use crate::unit::{Member, Unit};
 
-const SOURCE: &str = "fn count(a: &[u8], b: u8) -> usize { let z = bump(7); let mut n = 0; let mut i = 0; while i < a.len() { i += 1; } n }";
+const SOURCE: &str = "fn count(a: &[u8], b: u8) -> usize {
+    let z = bump(7); let mut n = 0; let mut i = 0; while i < a.len() { i += 1; } n }";
 
 fn unit() -> Unit {
     let lts = Lts::parse(include_str!("sample.txt"));
@@ -130,7 +131,9 @@ fn a_cycle_gets_its_frame() {
         "use Rattle.tries.proofs.inner.+count.Lts-count as count-lts",
         "use Rattle.other.proofs.inner.scan_all.Reads as scan-all-reads",
         "abbrev μ-count : cycle.Measures 1 count-kinds.ps nat.ℕ\nμ-count κs a = a .1 .0",
-        "count-add-n : (t : nat.ℕ) → count-lts.Need-add-n (count-below t, count-reads.Post, scan-all-reads.Asked, scan-all-reads.Learnt) (count-at t) count-reads.Post count-Inv-loop count-μ-loop",
+        "count-add-n : (t : nat.ℕ) → count-lts.Need-add-n \
+         (count-below t, count-reads.Post, scan-all-reads.Asked, scan-all-reads.Learnt) \
+         (count-at t) count-reads.Post count-Inv-loop count-μ-loop",
         "count-bump-requires t c κs = ?",
         "pub +count-spec : {M : Type 1} → statement M",
     ] {

@@ -83,8 +83,8 @@ pub fn dashed(name: &str) -> String {
 }
 
 const RESERVED: [&str; 24] = [
-    "data", "record", "deriving", "module", "where", "use", "mod", "pub", "package", "using", "open", "as", "abbrev", "axiom", "unfold", "ruleset",
-    "mutual", "infix", "elim", "let", "in", "do", "com", "V",
+    "data", "record", "deriving", "module", "where", "use", "mod", "pub", "package", "using", "open", "as",
+    "abbrev", "axiom", "unfold", "ruleset", "mutual", "infix", "elim", "let", "in", "do", "com", "V",
 ];
 
 /// A name as it is written where it may be a word that antt reserves.

@@ -7,31 +7,14 @@
 //! `bench [seed] [files per load]`
 
 use comparisons::harness::argument;
+use comparisons::library::{self, asked_of_run, ANSWER, SOLVED, SPENT};
 use comparisons::limits::{MAX_ROWS, MAX_STATES};
 use comparisons::loads::{Load, LOADS};
 use comparisons::random::Random;
-use comparisons::solver::{solve_file, Answer, OwnedTables, Run};
+use comparisons::solver::{solve_file, OwnedTables, Run};
 use std::hint::black_box;
 use std::process::ExitCode;
 use std::time::Instant;
-
-extern "C" {
-    fn cuulipso_solve(
-        file: *const u8,
-        file_length: usize,
-        budget: u64,
-        values: *mut u32,
-        values_length: usize,
-        picks: *mut u16,
-        picks_length: usize,
-        remembered: *mut u32,
-        remembered_length: usize,
-        walk: *mut u16,
-        walk_length: usize,
-        answer: *mut u64,
-        answer_length: usize,
-    ) -> u8;
-}
 
 /// The sizes timed, each with the highest ratio of the product's time to Rust's that is let pass.
 const BARS: [(usize, f64); 4] = [(16, 1.05), (64, 1.05), (256, 0.95), (1_024, 0.95)];
@@ -43,26 +26,9 @@ const PAIRS: usize = 15;
 const LASTS: f64 = 0.000_5;
 
 /// The product's run: its code and answer.
-fn product(file: &[u8], tables: &mut OwnedTables) -> (u8, [u64; 3]) {
-    let mut answer = [0; 3];
-    // SAFETY: each pointer stands with its slice's own length.
-    let code = unsafe {
-        cuulipso_solve(
-            file.as_ptr(),
-            file.len(),
-            BUDGET,
-            tables.values.as_mut_ptr(),
-            tables.values.len(),
-            tables.picks.as_mut_ptr(),
-            tables.picks.len(),
-            tables.remembered.as_mut_ptr(),
-            tables.remembered.len(),
-            tables.walk.as_mut_ptr(),
-            tables.walk.len(),
-            answer.as_mut_ptr(),
-            answer.len(),
-        )
-    };
+fn product(file: &[u8], tables: &mut OwnedTables) -> (u8, [u64; ANSWER]) {
+    let mut answer = [0; ANSWER];
+    let code = library::solve(file, BUDGET, tables.lend(), &mut answer);
     (code, answer)
 }
 
@@ -113,19 +79,13 @@ impl Measured {
     fn compare(&mut self, file: &[u8]) {
         let (mut ours, mut theirs) = (tables(), tables());
         let run = rust(file, &mut ours);
-        let (asked, counts) = match run.answer {
-            Answer::Solved { rounds, evaluations, least_cost } => {
-                ((1, [rounds, evaluations, u64::from(least_cost)]), [rounds, evaluations])
-            }
-            Answer::Spent { rounds, evaluations } => {
-                ((2, [rounds, evaluations, 0]), [rounds, evaluations])
-            }
-            Answer::Refused(refusal) => ((0, [refusal.question, refusal.place, 0]), [0, 0]),
-        };
+        let asked = asked_of_run(run.answer);
         let given = product(file, &mut theirs);
         self.differences += u64::from(given != asked || theirs != ours);
-        self.rounds += counts[0];
-        self.evaluations += counts[1];
+        if let (SOLVED | SPENT, [rounds, evaluations, _]) = asked {
+            self.rounds += rounds;
+            self.evaluations += evaluations;
+        }
         self.full_count += run.full_count;
     }
 
@@ -148,7 +108,7 @@ impl Measured {
     fn load(load: &Load, states: usize, seed: u64, files: u64) -> Measured {
         let mut measured = Measured::default();
         for number in 0..files {
-            let file = load.file(&mut Random::new(seed ^ (number << 20)), states);
+            let file = load.file(&mut Random::of_file(seed, number), states);
             measured.compare(&file);
             measured.time(&file);
         }

@@ -8,32 +8,13 @@ use comparisons::damage::damaged;
 use comparisons::encode::Draft;
 use comparisons::examples::{file_p, one_state};
 use comparisons::harness::{argument, noise, Tally};
+use comparisons::library::{self, asked_of_lent, ACCEPTED, ANSWER, REFUSED};
 use comparisons::limits::*;
 use comparisons::made::{at_limits, deep_chain, made};
 use comparisons::problem::Problem;
 use comparisons::random::Random;
 use comparisons::solver::{solve, Answer, OwnedTables};
 use std::process::ExitCode;
-
-extern "C" {
-    fn cuulipso_audit(
-        file: *const u8,
-        file_length: usize,
-        values: *const u32,
-        values_length: usize,
-        picks: *const u16,
-        picks_length: usize,
-        answer: *mut i64,
-        answer_length: usize,
-    ) -> u8;
-}
-
-/// The entries that an answer needs.
-const ANSWER: usize = 3;
-/// The codes of an acceptance, of a refusal, and of an answer lent too short.
-const ACCEPTED: u8 = 3;
-const REFUSED: u8 = 0;
-const TOO_SHORT: u8 = 4;
 
 /// A file whose run takes more rounds than this is audited with the tables that it has then.
 const MOST_ROUNDS: u64 = 5_000;
@@ -51,19 +32,7 @@ struct Proposal {
 
 /// The product's audit.
 fn product(file: &[u8], proposal: &Proposal, answer: &mut [i64]) -> u8 {
-    // SAFETY: each pointer stands with its slice's own length.
-    unsafe {
-        cuulipso_audit(
-            file.as_ptr(),
-            file.len(),
-            proposal.values.as_ptr(),
-            proposal.values.len(),
-            proposal.picks.as_ptr(),
-            proposal.picks.len(),
-            answer.as_mut_ptr(),
-            answer.len(),
-        )
-    }
+    library::audit(file, &proposal.values, &proposal.picks, answer)
 }
 
 /// The paper's audit: its code and its answer.
@@ -86,12 +55,7 @@ fn compare(random: &mut Random, tally: &mut Tally, file: &[u8], proposal: &Propo
     }
     for length in [ANSWER, random.below(ANSWER + 3)] {
         let mut given: Vec<i64> = noise(random, length);
-        let mut asked = given.clone();
-        let mut asked_code = TOO_SHORT;
-        if length >= ANSWER {
-            asked[..ANSWER].copy_from_slice(&answer);
-            asked_code = code;
-        }
+        let (asked_code, asked) = asked_of_lent(code, answer, &given);
         let given_code = product(file, proposal, &mut given);
         tally.hold("the code", &given_code, &asked_code);
         tally.hold("the answer", &given, &asked);
@@ -251,7 +215,7 @@ fn main() -> ExitCode {
     let (seed, files) = (argument(1, 1), argument(2, 4_000));
     let mut tally = Tally::default();
     for number in 0..files {
-        let mut random = Random::new(seed ^ (number << 20));
+        let mut random = Random::of_file(seed, number);
         let draft = draft_of(&mut random, number);
         tally.case = format!("seed {seed}, file {number}");
         tally.count("files");

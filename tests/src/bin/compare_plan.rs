@@ -4,42 +4,22 @@
 //! `compare_plan [program] [seed] [files]`
 
 use comparisons::damage::damaged;
-use comparisons::examples::{file_p, one_state};
+use comparisons::examples::{file_p, one_state, stick};
 use comparisons::harness::{argument, Tally};
 use comparisons::limits::{MAX_PENALTY, MAX_STATES};
-use comparisons::listing::plan_lines;
+use comparisons::listing::{ends_within, plan_lines};
 use comparisons::made::{at_limits, deep_chain, endless, made};
-use comparisons::problem::Problem;
+use comparisons::programs::{run, Program};
 use comparisons::random::Random;
-use comparisons::solver::{solve, Answer, OwnedTables};
-use std::io::Write;
-use std::process::{Command, ExitCode, Stdio};
+use std::process::{Command, ExitCode};
 
-/// Where the program stands unless it is named.
-const PROGRAM: &str = concat!(env!("CARGO_MANIFEST_DIR"), "/../target/bin/plan");
 /// A made file whose run takes more rounds than this is left out.
 const MOST_ROUNDS: u64 = 20_000;
 /// A standard input longer than any problem file.
 const VERY_LONG: usize = 200_000;
 
-/// What the program writes for a standard input.
-fn written(program: &str, input: &[u8]) -> String {
-    let mut child = Command::new(program)
-        .stdin(Stdio::piped())
-        .stdout(Stdio::piped())
-        .spawn()
-        .unwrap_or_else(|error| panic!("{program}: {error}"));
-    let mut pipe = child.stdin.take().expect("a pipe");
-    let output = std::thread::scope(|scope| {
-        // The program may end before it has read everything, so a write that fails is no matter.
-        scope.spawn(move || drop(pipe.write_all(input)));
-        child.wait_with_output().expect("output")
-    });
-    String::from_utf8_lossy(&output.stdout).into_owned()
-}
-
 /// Compares the program's lines on one input.
-fn compare(tally: &mut Tally, program: &str, case: &str, input: &[u8]) {
+fn compare(tally: &mut Tally, program: &Program, case: &str, input: &[u8]) {
     tally.case = case.to_string();
     let asked = plan_lines(input);
     let word = asked.split(' ').next().unwrap_or_default();
@@ -48,12 +28,14 @@ fn compare(tally: &mut Tally, program: &str, case: &str, input: &[u8]) {
         "spent" => tally.count("spent"),
         _ => tally.meet(asked.split(' ').nth(1).and_then(|q| q.parse().ok()).unwrap_or(0)),
     }
-    tally.hold("the lines", &written(program, input), &asked);
+    let said = run(&mut Command::new(program.path()), input);
+    tally.hold("the lines", &said.output, &asked);
+    tally.hold("the messages", said.messages.as_str(), "");
 }
 
 /// The files that stand for themselves: the paper's, the limits, a run that is spent, inputs empty
 /// and very long.
-fn compare_set_files(tally: &mut Tally, program: &str) {
+fn compare_set_files(tally: &mut Tally, program: &Program) {
     let mut random = Random::new(0);
     let limits = at_limits(&mut random, true, 5_000).bytes();
     let mut long = file_p().bytes();
@@ -64,6 +46,7 @@ fn compare_set_files(tally: &mut Tally, program: &str) {
     one_more.push(0);
     compare(tally, program, "P", &file_p().bytes());
     compare(tally, program, "the one-state file", &one_state().bytes());
+    compare(tally, program, "the stick", &stick().bytes());
     compare(tally, program, "an empty input", &[]);
     compare(tally, program, "a file at the limits", &limits);
     compare(tally, program, "that file and one byte more", &one_more);
@@ -77,31 +60,22 @@ fn compare_set_files(tally: &mut Tally, program: &str) {
         compare(tally, program, "a deep chain", &chain.bytes());
     }
     let dear = at_limits(&mut random, true, MAX_PENALTY).bytes();
-    if ends_soon(&dear) {
+    if ends_within(&dear, MOST_ROUNDS) {
         compare(tally, program, "a file at the limits, the highest penalty", &dear);
     }
 }
 
-/// Whether the run on a file is refused or ends within `MOST_ROUNDS`.
-fn ends_soon(file: &[u8]) -> bool {
-    let Ok(problem) = Problem::read(file) else {
-        return true;
-    };
-    let run = solve(&problem, MOST_ROUNDS, OwnedTables::new(&problem).lend());
-    !matches!(run.answer, Answer::Spent { .. })
-}
-
 fn main() -> ExitCode {
-    let program = std::env::args().nth(1).unwrap_or_else(|| PROGRAM.to_string());
+    let program = Program::named(1, "plan");
     let (seed, files) = (argument(2, 1), argument(3, 600));
     let mut tally = Tally::default();
     compare_set_files(&mut tally, &program);
     for number in 0..files {
-        let mut random = Random::new(seed ^ (number << 20));
+        let mut random = Random::of_file(seed, number);
         let draft = made(&mut random);
         let broken = random.once_in(4);
         let file = if broken { damaged(&mut random, &draft) } else { draft.bytes() };
-        if ends_soon(&file) {
+        if ends_within(&file, MOST_ROUNDS) {
             compare(&mut tally, &program, &format!("seed {seed}, file {number}"), &file);
         }
     }

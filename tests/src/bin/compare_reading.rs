@@ -7,49 +7,15 @@ use comparisons::damage::damaged;
 use comparisons::encode::Draft;
 use comparisons::examples::{file_p, one_state};
 use comparisons::harness::{argument, noise, Tally};
+use comparisons::library::{asked_of_lent, check, rows, ANSWER, PASSED, REFUSED};
 use comparisons::limits::{MAX_PENALTY, MAX_STATES, ROW_BYTES};
 use comparisons::made::{at_limits, deep_chain, made};
 use comparisons::problem::{lookup, Problem};
 use comparisons::random::Random;
 use std::process::ExitCode;
 
-extern "C" {
-    fn cuulipso_check(
-        file: *const u8,
-        file_length: usize,
-        answer: *mut u64,
-        answer_length: usize,
-    ) -> u8;
-    fn cuulipso_rows(
-        file: *const u8,
-        file_length: usize,
-        state: u64,
-        out: *mut u8,
-        out_length: usize,
-    ) -> u64;
-}
-
-/// The entries that an answer needs.
-const ANSWER: usize = 3;
-/// The code of a file that passes, of a refusal, and of an answer lent too short.
-const PASSED: u8 = 3;
-const REFUSED: u8 = 0;
-const TOO_SHORT: u8 = 4;
-
 /// How often each of the questions 1 to 11 must be met.
 const LEAST_MET: u64 = 50;
-
-/// The product's check of a file.
-fn check(file: &[u8], answer: &mut [u64]) -> u8 {
-    // SAFETY: each pointer stands with its slice's own length.
-    unsafe { cuulipso_check(file.as_ptr(), file.len(), answer.as_mut_ptr(), answer.len()) }
-}
-
-/// The product's lookup of a state's rows.
-fn rows(file: &[u8], state: u64, out: &mut [u8]) -> u64 {
-    // SAFETY: each pointer stands with its slice's own length.
-    unsafe { cuulipso_rows(file.as_ptr(), file.len(), state, out.as_mut_ptr(), out.len()) }
-}
 
 /// The code and the answer that the paper asks for.
 fn asked_check(file: &[u8]) -> (u8, [u64; ANSWER]) {
@@ -68,12 +34,7 @@ fn compare_check(random: &mut Random, tally: &mut Tally, file: &[u8]) {
     }
     for length in [random.below(ANSWER), ANSWER, ANSWER + 1 + random.below(2)] {
         let mut given: Vec<u64> = noise(random, length);
-        let mut asked = given.clone();
-        let mut asked_code = TOO_SHORT;
-        if length >= ANSWER {
-            asked[..ANSWER].copy_from_slice(&answer);
-            asked_code = code;
-        }
+        let (asked_code, asked) = asked_of_lent(code, answer, &given);
         let given_code = check(file, &mut given);
         tally.hold("check's code", &given_code, &asked_code);
         tally.hold("check's answer", &given, &asked);
@@ -135,7 +96,7 @@ fn main() -> ExitCode {
     let mut tally = Tally::default();
     compare_cuts(&mut Random::new(seed), &mut tally);
     for number in 0..files {
-        let mut random = Random::new(seed ^ (number << 20));
+        let mut random = Random::of_file(seed, number);
         let draft = draft_of(&mut random, number);
         let whole = random.once_in(5);
         let file = if whole { draft.bytes() } else { damaged(&mut random, &draft) };

@@ -8,38 +8,15 @@ use comparisons::damage::damaged;
 use comparisons::encode::Draft;
 use comparisons::examples::{file_p, one_state};
 use comparisons::harness::{argument, noise, Tally};
+use comparisons::library::{
+    self, asked_of_lent, asked_of_run, ANSWER, REFUSED, SOLVED, SPENT, TOO_SHORT,
+};
 use comparisons::limits::*;
 use comparisons::made::{at_limits, deep_chain, made};
 use comparisons::problem::Problem;
 use comparisons::random::Random;
 use comparisons::solver::{solve, solve_file, Answer, OwnedTables};
 use std::process::ExitCode;
-
-extern "C" {
-    fn cuulipso_solve(
-        file: *const u8,
-        file_length: usize,
-        budget: u64,
-        values: *mut u32,
-        values_length: usize,
-        picks: *mut u16,
-        picks_length: usize,
-        remembered: *mut u32,
-        remembered_length: usize,
-        walk: *mut u16,
-        walk_length: usize,
-        answer: *mut u64,
-        answer_length: usize,
-    ) -> u8;
-}
-
-/// The entries that an answer needs.
-const ANSWER: usize = 3;
-/// The codes of a refusal, of a solved and a spent run, and of an answer lent too short.
-const REFUSED: u8 = 0;
-const SOLVED: u8 = 1;
-const SPENT: u8 = 2;
-const TOO_SHORT: u8 = 4;
 
 /// The stack that the runs must do with.
 const STACK: usize = 512 * 1_024;
@@ -51,39 +28,6 @@ const MANY_ROUNDS: u64 = 100;
 const LARGE: u64 = 1_000_000;
 /// How often questions 12 and 13 must be met.
 const LEAST_MET: u64 = 1_000;
-
-/// The product's run.
-fn product(file: &[u8], budget: u64, tables: &mut OwnedTables, answer: &mut [u64]) -> u8 {
-    // SAFETY: each pointer stands with its slice's own length.
-    unsafe {
-        cuulipso_solve(
-            file.as_ptr(),
-            file.len(),
-            budget,
-            tables.values.as_mut_ptr(),
-            tables.values.len(),
-            tables.picks.as_mut_ptr(),
-            tables.picks.len(),
-            tables.remembered.as_mut_ptr(),
-            tables.remembered.len(),
-            tables.walk.as_mut_ptr(),
-            tables.walk.len(),
-            answer.as_mut_ptr(),
-            answer.len(),
-        )
-    }
-}
-
-/// The paper's run: its code and its answer.
-fn paper(file: &[u8], budget: u64, tables: &mut OwnedTables) -> (u8, [u64; ANSWER]) {
-    match solve_file(file, budget, tables.lend()).answer {
-        Answer::Solved { rounds, evaluations, least_cost } => {
-            (SOLVED, [rounds, evaluations, u64::from(least_cost)])
-        }
-        Answer::Spent { rounds, evaluations } => (SPENT, [rounds, evaluations, 0]),
-        Answer::Refused(refusal) => (REFUSED, [refusal.question, refusal.place, 0]),
-    }
-}
 
 /// Tables of noise: mostly longer than needed, or just long enough, or one of them short.
 fn lent(random: &mut Random, states: usize, rows: usize) -> OwnedTables {
@@ -121,13 +65,11 @@ fn compare_run(
         _ => ANSWER,
     };
     let mut given_answer: Vec<u64> = noise(random, length);
-    let mut asked_answer = given_answer.clone();
-    let mut asked_code = TOO_SHORT;
-    if length >= ANSWER {
-        let (code, answer) = paper(file, budget, &mut asked);
-        asked_code = code;
-        asked_answer[..ANSWER].copy_from_slice(&answer);
-    }
+    let (code, answer) = match length >= ANSWER {
+        true => asked_of_run(solve_file(file, budget, asked.lend()).answer),
+        false => (TOO_SHORT, [0; ANSWER]),
+    };
+    let (asked_code, asked_answer) = asked_of_lent(code, answer, &given_answer);
     match asked_code {
         REFUSED => tally.meet(asked_answer[0]),
         SOLVED if asked_answer[0] >= MANY_ROUNDS => tally.count("solved after 100 rounds or more"),
@@ -135,7 +77,7 @@ fn compare_run(
         SPENT => tally.count("spent"),
         _ => tally.count("answers lent too short"),
     }
-    let given_code = product(file, budget, &mut given, &mut given_answer);
+    let given_code = library::solve(file, budget, given.lend(), &mut given_answer);
     tally.hold("the code", &given_code, &asked_code);
     tally.hold("the answer", &given_answer, &asked_answer);
     tally.hold("the values", &given.values, &asked.values);
@@ -201,7 +143,7 @@ fn draft_of(random: &mut Random, number: u64) -> Draft {
 fn compare(seed: u64, files: u64) -> ExitCode {
     let mut tally = Tally::default();
     for number in 0..files {
-        let mut random = Random::new(seed ^ (number << 20));
+        let mut random = Random::of_file(seed, number);
         let draft = draft_of(&mut random, number);
         let broken = number >= 24 && random.once_in(10);
         let file = if broken { damaged(&mut random, &draft) } else { draft.bytes() };

@@ -1,0 +1,51 @@
+/* The C interface of Cuulipso (target/staticlib/libcapi.a, made by `rt staticlib capi`).
+ *
+ * A table is lent as a pointer and its number of entries. Any bytes and any tables get an answer; nothing is read or written past an
+ * end, nothing is kept after a call, and no memory is allocated. Calls on tables of their own may run at the same time. The lent tables
+ * of one call must not overlap, and a pointer may be anything only where its number of entries is 0. */
+#ifndef CUULIPSO_H
+#define CUULIPSO_H
+
+#include <stddef.h>
+#include <stdint.h>
+
+/* What the functions return. */
+enum {
+    CUULIPSO_REFUSED = 0,   /* answer: question, place, and for an audit the excess, else 0 */
+    CUULIPSO_SOLVED = 1,    /* answer: rounds, evaluations, C */
+    CUULIPSO_SPENT = 2,     /* answer: rounds, evaluations, 0 */
+    CUULIPSO_PASSED = 3,    /* of a check, answer: 0, 0, 0; of an audit: accepted, answer: C, 0, 0 */
+    CUULIPSO_TOO_SHORT = 4  /* the answer's table has fewer than 3 entries; nothing was done */
+};
+
+/* Picks that are no row, and the mark of an unused entry of a walk list. */
+enum { CUULIPSO_NO_PICK = 65534, CUULIPSO_GIVE_UP = 65535, CUULIPSO_NO_STATE = 65535 };
+
+/* Entries that are always enough: states for values, picks and walk, rows for remembered. */
+enum { CUULIPSO_STATES = 1024, CUULIPSO_ROWS = 4096, CUULIPSO_ANSWER = 3 };
+
+/* Puts questions 1 to 11 to a problem file. */
+uint8_t cuulipso_check(const uint8_t *file, size_t file_length,
+                       uint64_t *answer, size_t answer_length);
+
+/* Looks up a state's rows: returns the length of their bytes (4 a row, as in the file), 0 where the file is refused or has no such
+ * state. The bytes stand at the front of out as far as they fit; the rest of out stays. */
+uint64_t cuulipso_rows(const uint8_t *file, size_t file_length, uint64_t state,
+                       uint8_t *out, size_t out_length);
+
+/* Runs up to budget rounds. After solved or spent the four tables hold the run's state, entries beyond the file's states and rows stay;
+ * after a refusal all are as lent. walk ends in CUULIPSO_NO_STATE up to the number of states. */
+uint8_t cuulipso_solve(const uint8_t *file, size_t file_length, uint64_t budget,
+                       uint32_t *values, size_t values_length,
+                       uint16_t *picks, size_t picks_length,
+                       uint32_t *remembered, size_t remembered_length,
+                       uint16_t *walk, size_t walk_length,
+                       uint64_t *answer, size_t answer_length);
+
+/* Audits tables from any origin for a file; changes neither. */
+uint8_t cuulipso_audit(const uint8_t *file, size_t file_length,
+                       const uint32_t *values, size_t values_length,
+                       const uint16_t *picks, size_t picks_length,
+                       int64_t *answer, size_t answer_length);
+
+#endif

@@ -1,0 +1,98 @@
+/* Checks, solves and audits a problem file through the C interface, and prints what it got.
+ *
+ *     gcc -O2 -Iexamples/c examples/c/plan_and_audit.c target/staticlib/libcapi.a -o plan_and_audit
+ *     ./plan_and_audit examples/P */
+#include "cuulipso.h"
+
+#include <inttypes.h>
+#include <stdio.h>
+
+/* Longer than any file that passes. */
+enum { FILE_ROOM = 65536 };
+#define ROUNDS UINT64_C(1000000)
+
+static uint8_t file[FILE_ROOM];
+static size_t file_length;
+static uint32_t values[CUULIPSO_STATES];
+static uint16_t picks[CUULIPSO_STATES];
+static uint32_t remembered[CUULIPSO_ROWS];
+static uint16_t walk[CUULIPSO_STATES];
+
+/* Reads the file of a name; 0 where that fails. */
+static int read_file(const char *name)
+{
+    FILE *from = fopen(name, "rb");
+    if (from == NULL)
+        return 0;
+    file_length = fread(file, 1, FILE_ROOM, from);
+    int good = !ferror(from);
+    fclose(from);
+    return good;
+}
+
+/* Puts questions 1 to 11; 1 where the file passes. */
+static int check(void)
+{
+    uint64_t answer[CUULIPSO_ANSWER];
+    if (cuulipso_check(file, file_length, answer, CUULIPSO_ANSWER) == CUULIPSO_REFUSED) {
+        printf("check: refused, question %" PRIu64 ", place %" PRIu64 "\n", answer[0], answer[1]);
+        return 0;
+    }
+    printf("check: passed\n");
+    return 1;
+}
+
+/* Prints the states of the last walk, in the order of the walk. */
+static void print_states(void)
+{
+    for (size_t at = 0; at < CUULIPSO_STATES && walk[at] != CUULIPSO_NO_STATE; at++) {
+        unsigned state = walk[at];
+        printf("state %u: %" PRIu32 " ticks, ", state, values[state]);
+        if (picks[state] == CUULIPSO_GIVE_UP)
+            printf("give up\n");
+        else
+            printf("row %u\n", (unsigned)picks[state]);
+    }
+}
+
+/* Solves a file that passed. */
+static void solve(void)
+{
+    uint64_t answer[CUULIPSO_ANSWER];
+    uint8_t code = cuulipso_solve(file, file_length, ROUNDS, values, CUULIPSO_STATES, picks, CUULIPSO_STATES,
+                                  remembered, CUULIPSO_ROWS, walk, CUULIPSO_STATES, answer, CUULIPSO_ANSWER);
+    printf("solve: %s, %" PRIu64 " rounds, %" PRIu64 " evaluations, C %" PRIu64 "\n",
+           code == CUULIPSO_SOLVED ? "solved" : "spent", answer[0], answer[1], answer[2]);
+    print_states();
+}
+
+/* Audits the tables as they stand. */
+static void audit(void)
+{
+    int64_t answer[CUULIPSO_ANSWER];
+    uint8_t code = cuulipso_audit(file, file_length, values, CUULIPSO_STATES, picks, CUULIPSO_STATES,
+                                  answer, CUULIPSO_ANSWER);
+    if (code == CUULIPSO_PASSED)
+        printf("audit: accepted, C %" PRId64 "\n", answer[0]);
+    else
+        printf("audit: refused, question %" PRId64 ", place %" PRId64 ", excess %" PRId64 "\n",
+               answer[0], answer[1], answer[2]);
+}
+
+int main(int count, char **words)
+{
+    if (count != 2 || !read_file(words[1])) {
+        fprintf(stderr, "plan_and_audit: give the name of a problem file\n");
+        return 1;
+    }
+    for (size_t at = 0; at < CUULIPSO_STATES; at++)
+        walk[at] = CUULIPSO_NO_STATE;
+    if (!check())
+        return 0;
+    solve();
+    audit();
+    values[0]++;
+    printf("with the value of state 0 a tick higher:\n");
+    audit();
+    return 0;
+}

@@ -1,0 +1,169 @@
+//! Compiles the C and the Rust example as `README.md` says, runs both on files of `examples` and on
+//! others, and holds what they print against the solver and the audit written apart. Holds also what
+//! `stick.md` and `README.md` show.
+//!
+//! `compare_examples`
+
+use comparisons::audit::{audit_file, Verdict};
+use comparisons::examples::{path, stick, TEXTS};
+use comparisons::harness::Tally;
+use comparisons::limits::{GIVE_UP, PLAN_ROUNDS};
+use comparisons::listing::{audit_line, plan_lines, planned};
+use comparisons::made::{at_limits, deep_chain};
+use comparisons::problem::Problem;
+use comparisons::programs::{said, start, Folder, Said};
+use comparisons::random::Random;
+use comparisons::solver::{solve, Answer, OwnedTables};
+use comparisons::written::Written;
+use std::process::{Command, ExitCode};
+
+/// The top of the repository.
+const TOP: &str = concat!(env!("CARGO_MANIFEST_DIR"), "/..");
+/// How an example is compiled: the language, the command that `README.md` shows, from the top of the
+/// repository, and words that make the compiler strict.
+struct Example {
+    name: &'static str,
+    command: &'static str,
+    strict: &'static str,
+}
+
+/// The examples.
+const EXAMPLES: [Example; 2] = [
+    Example {
+        name: "c",
+        command: "gcc -O2 -Iexamples/c examples/c/plan_and_audit.c target/staticlib/libcapi.a",
+        strict: "-std=c11 -Wall -Wextra -Wpedantic -Werror",
+    },
+    Example {
+        name: "rust",
+        command: "rustc -O examples/rust/plan_and_audit.rs -C link-arg=target/staticlib/libcapi.a",
+        strict: "-D warnings",
+    },
+];
+
+/// Compiles an example into the folder.
+fn compile(folder: &Folder, example: &Example) {
+    let mut words = example.command.split(' ');
+    let mut compiler = Command::new(words.next().expect("a compiler"));
+    compiler.args(words).args(example.strict.split(' '));
+    compiler.arg("-o").arg(folder.path(example.name)).current_dir(TOP);
+    let status = compiler.status().unwrap_or_else(|error| panic!("{compiler:?}: {error}"));
+    assert!(status.success(), "{compiler:?}");
+}
+
+/// What the examples print of a verdict.
+fn audit_text(verdict: Verdict) -> String {
+    match verdict {
+        Verdict::Accepted { least_cost } => format!("audit: accepted, C {least_cost}\n"),
+        Verdict::Refused { question, place, excess } => {
+            format!("audit: refused, question {question}, place {place}, excess {excess}\n")
+        }
+    }
+}
+
+/// What the examples print of the states of the last walk.
+fn states_text(tables: &OwnedTables) -> String {
+    let listed = tables.walk.iter().take_while(|&&state| state != GIVE_UP);
+    let line = |&state: &u16| {
+        let value = tables.values[usize::from(state)];
+        match tables.picks[usize::from(state)] {
+            GIVE_UP => format!("state {state}: {value} ticks, give up\n"),
+            row => format!("state {state}: {value} ticks, row {row}\n"),
+        }
+    };
+    listed.map(line).collect()
+}
+
+/// All that the examples print of a file.
+fn example_text(file: &[u8]) -> String {
+    let problem = match Problem::read(file) {
+        Ok(problem) => problem,
+        Err(no) => {
+            return format!("check: refused, question {}, place {}\n", no.question, no.place)
+        }
+    };
+    let mut tables = OwnedTables::new(&problem);
+    let (word, rounds, evaluations, least) =
+        match solve(&problem, PLAN_ROUNDS, tables.lend()).answer {
+            Answer::Solved { rounds, evaluations, least_cost } => {
+                ("solved", rounds, evaluations, least_cost)
+            }
+            Answer::Spent { rounds, evaluations } => ("spent", rounds, evaluations, 0),
+            Answer::Refused(refusal) => panic!("{refusal:?}"),
+        };
+    let states = states_text(&tables);
+    let audit = audit_text(audit_file(file, &tables.values, &tables.picks));
+    tables.values[0] += 1;
+    let higher = audit_text(audit_file(file, &tables.values, &tables.picks));
+    format!(
+        "check: passed\nsolve: {word}, {rounds} rounds, {evaluations} evaluations, C {least}\n\
+         {states}{audit}with the value of state 0 a tick higher:\n{higher}"
+    )
+}
+
+/// Runs both examples on a file.
+fn compare(tally: &mut Tally, folder: &Folder, case: &str, file: &[u8]) {
+    folder.put("file", Some(file));
+    for Example { name, .. } in EXAMPLES {
+        tally.case = format!("the {name} example on {case}");
+        tally.count("runs of an example");
+        let said = said(start(Command::new(folder.path(name)).arg(folder.path("file"))));
+        let asked = Said::only(example_text(file));
+        tally.hold("what it prints", &said, &asked);
+    }
+}
+
+/// A text as an indented block.
+fn block(text: &str) -> String {
+    let indented = |line: &str| if line.is_empty() { "\n".into() } else { format!("    {line}\n") };
+    text.lines().map(indented).collect()
+}
+
+/// Holds that a page shows a text, as a block.
+fn hold_shown(tally: &mut Tally, page: &str, text: &str) {
+    tally.case = page.into();
+    tally.count("texts shown on pages");
+    let shown = std::fs::read_to_string(path(page)).expect("a page");
+    let given = if shown.contains(block(text).trim_end()) { text } else { "not shown" };
+    tally.hold("what it shows", given, text);
+}
+
+/// What the pages show: the stick's listing, plan and audits; P's text and lines, what the examples
+/// print of it, and how they are compiled.
+fn compare_pages(tally: &mut Tally) {
+    let file = stick().bytes();
+    let tables = planned(&file).tables.expect("the stick passes");
+    let (_, text) = TEXTS[2];
+    let listing = Written::read(text).expect("the stick's text is whole").listing();
+    hold_shown(tally, "stick.md", &listing);
+    hold_shown(tally, "stick.md", &plan_lines(&file));
+    hold_shown(tally, "stick.md", &audit_line(audit_file(&file, &tables.values, &tables.picks)));
+    let mut values = tables.values.clone();
+    values[2] += 1;
+    hold_shown(tally, "stick.md", &audit_line(audit_file(&file, &values, &tables.picks)));
+    let p = std::fs::read(path("P")).expect("P");
+    hold_shown(tally, "../README.md", TEXTS[0].1);
+    hold_shown(tally, "../README.md", &plan_lines(&p));
+    hold_shown(tally, "../README.md", &example_text(&p));
+    for example in &EXAMPLES {
+        hold_shown(tally, "../README.md", example.command);
+    }
+}
+
+fn main() -> ExitCode {
+    let mut tally = Tally::default();
+    let folder = Folder::new("compare-examples");
+    for example in &EXAMPLES {
+        compile(&folder, example);
+    }
+    for (name, _) in TEXTS {
+        let file = std::fs::read(path(name)).expect("an example");
+        compare(&mut tally, &folder, name, &file);
+    }
+    let mut random = Random::new(1);
+    compare(&mut tally, &folder, "an empty file", &[]);
+    compare(&mut tally, &folder, "the limits", &at_limits(&mut random, true, 5_000).bytes());
+    compare(&mut tally, &folder, "a chain", &deep_chain(&mut random, 1_024, 8, true).bytes());
+    compare_pages(&mut tally);
+    tally.close(0..=0, 0)
+}

@@ -1,0 +1,255 @@
+//! Compares the day of the programs, end to end, with the solver and the audit written apart: `plan
+//! VALUES PICKS` prints and writes the run, `audit FILE VALUES PICKS` prints the verdict on what was
+//! written, on values a tick higher, and on tables damaged in many ways.
+//!
+//! `compare_programs [plan] [audit] [seed] [files]`
+
+use comparisons::audit::{audit_file, Verdict};
+use comparisons::damage::damaged;
+use comparisons::encode::Draft;
+use comparisons::examples::{file_p, one_state, stick};
+use comparisons::harness::{argument, noise, Tally};
+use comparisons::limits::{GIVE_UP, MAX_STATES, NO_PICK};
+use comparisons::listing::{audit_line, ends_within, planned, Planned};
+use comparisons::made::{at_limits, deep_chain, endless, made};
+use comparisons::programs::{Folder, Program, Said};
+use comparisons::random::Random;
+use comparisons::solver::OwnedTables;
+use comparisons::table_files::{picks_bytes, picks_of, values_bytes, values_of};
+use std::process::ExitCode;
+
+/// A made file whose run takes more rounds than this is left out.
+const MOST_ROUNDS: u64 = 20_000;
+/// Damaged tables tried on each file.
+const DAMAGES: usize = 6;
+/// How often each of the questions 15 to 19 must be met.
+const LEAST_MET: u64 = 20;
+/// Files and tables far longer than any that could be meant, in bytes.
+const VERY_LONG: usize = 5_000_000;
+/// Lengths of files that hold more than they should: about a buffer of 65,536 bytes, and far above.
+const FILE_LENGTHS: [usize; 4] = [65_535, 65_536, 65_537, VERY_LONG];
+/// The names of the tables in the folder.
+const NAMES: [&str; 2] = ["values", "picks"];
+
+/// The bytes of the two table files.
+type Tables = [Vec<u8>; 2];
+
+/// What a comparison needs: the programs, a folder for their files, and the count of differences.
+struct Day {
+    plan: Program,
+    audit: Program,
+    folder: Folder,
+    tally: Tally,
+}
+
+impl Day {
+    /// Plans a file with names, which may hold something before. Gives what the paper asks for.
+    fn plan(&mut self, file: &[u8], before: &[Option<Vec<u8>>; 2]) -> Planned {
+        let asked = planned(file);
+        for (name, bytes) in NAMES.iter().zip(before) {
+            self.folder.put(name, bytes.as_deref());
+        }
+        let said = self.plan.run(&self.folder, &NAMES, file);
+        let lines = Said::only(asked.lines.clone());
+        self.tally.hold("plan's lines", &said, &lines);
+        let after = match &asked.tables {
+            Some(tables) => [Some(values_bytes(&tables.values)), Some(picks_bytes(&tables.picks))],
+            None => before.clone(),
+        };
+        self.tally.hold("the tables", &NAMES.map(|name| self.folder.get(name)), &after);
+        let mut others = self.folder.names();
+        others.retain(|name| name != "file" && !NAMES.contains(&name.as_str()));
+        self.tally.hold("what else is left", &others, &vec![]);
+        asked
+    }
+
+    /// Audits tables for the file that stands in the folder.
+    fn audit(&mut self, file: &[u8], tables: &Tables) -> Verdict {
+        for (name, bytes) in NAMES.iter().zip(tables) {
+            self.folder.put(name, Some(bytes));
+        }
+        let verdict = audit_file(file, &values_of(&tables[0]), &picks_of(&tables[1]));
+        match verdict {
+            Verdict::Accepted { .. } => self.tally.count("audits, accepted"),
+            Verdict::Refused { question, .. } => self.tally.meet(question),
+        }
+        let said = self.audit.run(&self.folder, &["file", NAMES[0], NAMES[1]], &[]);
+        let line = Said::only(audit_line(verdict));
+        self.tally.hold("audit's line", &said, &line);
+        verdict
+    }
+
+    /// The day of a file: planned over old tables or none, audited as written, a tick higher, and
+    /// with damage.
+    fn compare(&mut self, random: &mut Random, case: &str, file: &[u8]) {
+        self.tally.case = case.into();
+        self.folder.put("file", Some(file));
+        let before = NAMES.map(|_| random.once_in(2).then(|| any_bytes(random)));
+        let Planned { lines, tables: Some(tables) } = self.plan(file, &before) else {
+            self.tally.count("plans, refused");
+            self.audit(file, &[any_bytes(random), any_bytes(random)]);
+            return;
+        };
+        let written = NAMES.map(|name| self.folder.get(name).unwrap_or_default());
+        let verdict = self.audit(file, &written);
+        if let Some(solved) = lines.lines().next().and_then(|line| line.strip_prefix("solved ")) {
+            let least_cost = solved.rsplit(' ').next().unwrap_or_default();
+            self.tally.count("plans, solved");
+            let asked = format!("accepted {least_cost}\n");
+            self.tally.hold("the verdict on a solved run", &audit_line(verdict), &asked);
+        }
+        self.raise_a_tick(random, file, &tables);
+        for _ in 0..DAMAGES {
+            let tables = damaged_tables(random, &tables);
+            self.audit(file, &tables);
+        }
+    }
+
+    /// One value a tick higher: at the start of the table, and at any state.
+    fn raise_a_tick(&mut self, random: &mut Random, file: &[u8], tables: &OwnedTables) {
+        for state in [0, random.below(tables.values.len())] {
+            let mut values = tables.values.clone();
+            values[state] += 1;
+            let verdict = self.audit(file, &[values_bytes(&values), picks_bytes(&tables.picks)]);
+            match verdict {
+                Verdict::Accepted { .. } => self.tally.count("a tick higher, accepted"),
+                Verdict::Refused { .. } => self.tally.count("a tick higher, refused"),
+            }
+        }
+    }
+
+    /// The paper's own words: P's tables pass, and with V(0) 370,001 they meet 17, row 0, excess 1.
+    fn compare_p(&mut self) {
+        self.tally.case = "P in the paper's words".into();
+        let names = ["file", NAMES[0], NAMES[1]];
+        let file = file_p().bytes();
+        self.folder.put("file", Some(&file));
+        let lines = self.plan.run(&self.folder, &NAMES, &file).output;
+        self.tally.hold("plan", lines.as_str(), "solved 3 5 100000\n0 370000 0\n1 300000 2\n");
+        for (value, asked) in [
+            (370_000, "accepted 100000\n"),
+            (370_001, "refused 17 0 1\n"),
+            (369_999, "refused 19 0 -1\n"),
+        ] {
+            let values = values_bytes(&[value, 300_000, 0]);
+            self.folder.put(NAMES[0], Some(&values));
+            let line = self.audit.run(&self.folder, &names, &[]).output;
+            self.tally.hold("audit", line.as_str(), asked);
+        }
+    }
+
+    /// Inputs far longer than a file or a table that could be meant, and empty ones.
+    fn compare_lengths(&mut self, random: &mut Random) {
+        for (case, draft) in [("P", file_p()), ("limits", at_limits(random, true, 5_000))] {
+            let file = draft.bytes();
+            let tables = planned(&file).tables.expect("not refused");
+            let tables = [values_bytes(&tables.values), picks_bytes(&tables.picks)];
+            self.compare_long_tables(case, &file, &tables);
+            for length in FILE_LENGTHS {
+                self.tally.case = format!("{case}, the file with {length} bytes");
+                let mut long = file.clone();
+                long.resize(length, 0);
+                self.folder.put("file", Some(&long));
+                self.audit(&long, &tables);
+                self.plan(&long, &[None, None]);
+            }
+        }
+        for (case, file) in [("empty", vec![]), ("noise", noise(random, VERY_LONG))] {
+            self.compare(random, case, &file);
+        }
+    }
+
+    /// Either table very long, with zeros and with the highest entries, and empty.
+    fn compare_long_tables(&mut self, case: &str, file: &[u8], tables: &Tables) {
+        self.folder.put("file", Some(file));
+        for (at, filler) in [(0, 0), (1, 0), (0, 255), (1, 255)] {
+            self.tally.case = format!("{case}, table {at} very long");
+            let mut long = tables.clone();
+            long[at].resize(VERY_LONG + 1, filler);
+            self.audit(file, &long);
+        }
+        for at in [0, 1] {
+            self.tally.case = format!("{case}, table {at} empty");
+            let mut empty = tables.clone();
+            empty[at].clear();
+            self.audit(file, &empty);
+        }
+    }
+}
+
+/// Bytes of any length, a few or more than the largest table has.
+fn any_bytes(random: &mut Random) -> Vec<u8> {
+    let length = random.pick(&[0, 1, 7, 64, 5_000, 100_000]);
+    let length = random.below(length + 1);
+    noise(random, length)
+}
+
+/// Tables broken once to three times.
+fn damaged_tables(random: &mut Random, tables: &OwnedTables) -> Tables {
+    let mut tables = tables.clone();
+    let state = random.below(tables.values.len());
+    let entries = random.below(3);
+    if entries == 1 {
+        let value = &mut tables.values[state];
+        let by = random.pick(&[1, 2, 100, 999, 1_000, 1_000_000]);
+        *value = if random.once_in(2) { value.wrapping_add(by) } else { value.saturating_sub(by) };
+    } else if entries == 2 {
+        let any = random.below(tables.remembered.len() + 2) as u16;
+        tables.picks[state] = random.pick(&[any, any, GIVE_UP, NO_PICK]);
+    }
+    let mut bytes = [values_bytes(&tables.values), picks_bytes(&tables.picks)];
+    if entries == 0 || random.once_in(4) {
+        let table = random.below(2);
+        damage_bytes(random, &mut bytes[table]);
+    }
+    bytes
+}
+
+/// Cuts a table file anywhere, lengthens it, empties it, or changes bytes of it.
+fn damage_bytes(random: &mut Random, bytes: &mut Vec<u8>) {
+    match random.below(6) {
+        0 => bytes.truncate(random.below(bytes.len() + 1)),
+        1 => bytes.truncate(bytes.len() - 1 - random.below(bytes.len().min(8))),
+        2 => bytes.extend(any_bytes(random)),
+        3 => bytes.clear(),
+        4 => *bytes = any_bytes(random),
+        _ => {
+            for _ in 0..1 + random.below(3) {
+                let at = random.below(bytes.len());
+                bytes[at] = random.bits() as u8;
+            }
+        }
+    }
+}
+
+/// The draft behind the file of a number: the examples, those at the limits, and made ones.
+fn draft_of(random: &mut Random, number: u64) -> Draft {
+    match number {
+        0..=4 => file_p(),
+        5..=6 => one_state(),
+        7..=11 => stick(),
+        12..=14 => at_limits(random, number == 12, 5_000),
+        15..=16 => deep_chain(random, MAX_STATES, 8, number == 15),
+        17 => endless(),
+        _ => made(random),
+    }
+}
+
+fn main() -> ExitCode {
+    let (plan, audit) = (Program::named(1, "plan"), Program::named(2, "audit"));
+    let (seed, files) = (argument(3, 1), argument(4, 300));
+    let folder = Folder::new("compare-programs");
+    let mut day = Day { plan, audit, folder, tally: Tally::default() };
+    day.compare_p();
+    day.compare_lengths(&mut Random::new(seed));
+    for number in 0..files {
+        let mut random = Random::of_file(seed, number);
+        let draft = draft_of(&mut random, number);
+        let broken = number > 17 && random.once_in(5);
+        let file = if broken { damaged(&mut random, &draft) } else { draft.bytes() };
+        if number <= 17 || ends_within(&file, MOST_ROUNDS) {
+            day.compare(&mut random, &format!("seed {seed}, file {number}"), &file);
+        }
+    }
+    day.tally.close(15..=19, LEAST_MET)
+}

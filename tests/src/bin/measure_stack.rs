@@ -1,0 +1,121 @@
+//! Measures the stack that the product needs at the limits: 1,024 states one below the other, 4,096
+//! rows, 8,192 outcomes. The library runs on threads with smaller and smaller stacks, each in a
+//! process of its own; the programs run under `ulimit -s`, and under `ulimit -v` for all their memory.
+//!
+//! `measure_stack [plan] [audit]`
+
+use comparisons::audit::Verdict;
+use comparisons::library::{self, ACCEPTED, ANSWER, PASSED, SOLVED};
+use comparisons::limits::PLAN_ROUNDS;
+use comparisons::listing::{audit_line, planned};
+use comparisons::made::deepest;
+use comparisons::programs::{run, said, start, Folder, Program};
+use comparisons::solver::OwnedTables;
+use comparisons::table_files::{picks_bytes, values_bytes};
+use std::process::Command;
+
+/// The steps of the measuring, in KiB: a page.
+const STEP: u64 = 4;
+/// More than anything needs, in KiB.
+const PLENTY: u64 = 16 * 1_024;
+/// What a child prints when it came to its end.
+const DONE: &str = "done\n";
+/// Runs a program under a limit.
+const LIMITED: &str = "ulimit \"$1\" \"$2\"; shift 2; exec \"$@\"";
+
+/// The product's run on the file.
+fn solve(file: &[u8], tables: &mut OwnedTables) {
+    let code = library::solve(file, PLAN_ROUNDS, tables.lend(), &mut [0; ANSWER]);
+    assert_eq!(code, SOLVED);
+}
+
+/// The product's audit of the tables.
+fn audit(file: &[u8], tables: &OwnedTables) {
+    let code = library::audit(file, &tables.values, &tables.picks, &mut [0; ANSWER]);
+    assert_eq!(code, ACCEPTED);
+}
+
+/// The product's check of the file.
+fn check(file: &[u8]) {
+    let code = library::check(file, &mut [0; ANSWER]);
+    assert_eq!(code, PASSED);
+}
+
+/// A child's part: the named function on a thread with so many KiB of stack.
+fn child(function: &str, kib: &str) {
+    let function = function.to_string();
+    let stack = kib.parse::<usize>().expect("a whole number") * 1_024;
+    let file = deepest().bytes();
+    let mut tables = planned(&file).tables.expect("whole");
+    let thread = std::thread::Builder::new().stack_size(stack);
+    let work = move || match function.as_str() {
+        "solve" => solve(&file, &mut tables),
+        "audit" => audit(&file, &tables),
+        _ => check(&file),
+    };
+    thread.spawn(work).expect("a thread").join().expect("it ends well");
+    print!("{DONE}");
+}
+
+/// Whether a function of the library does with so much.
+fn library_does(function: &str, kib: u64) -> bool {
+    let own = std::env::current_exe().expect("this program");
+    let command = &mut Command::new(own);
+    said(start(command.args(["child", function, &kib.to_string()]))).output == DONE
+}
+
+/// Whether a program does with so much of what a letter of `ulimit` names.
+fn program_does(command: &Command, limit: &str, kib: u64, input: &[u8], asked: &str) -> bool {
+    let mut limited = Command::new("sh");
+    limited.args(["-c", LIMITED, "sh", limit, &kib.to_string()]);
+    limited.arg(command.get_program()).args(command.get_args()).env_clear();
+    limited.current_dir(command.get_current_dir().expect("a folder"));
+    run(&mut limited, input).output == asked
+}
+
+/// The least number of KiB with which something does.
+fn least(does: impl Fn(u64) -> bool) -> u64 {
+    let (mut fails, mut enough) = (0, PLENTY);
+    assert!(does(enough));
+    while enough - fails > STEP {
+        let middle = (fails + enough) / 2 / STEP * STEP;
+        match does(middle) {
+            true => enough = middle,
+            false => fails = middle,
+        }
+    }
+    enough
+}
+
+/// Measures a program.
+fn measure(name: &str, command: &Command, input: &[u8], asked: &str) {
+    let stack = least(|kib| program_does(command, "-s", kib, input, asked));
+    let memory = least(|kib| program_does(command, "-v", kib, input, asked));
+    println!("{name}: {stack} KiB of stack, {memory} KiB of memory in all");
+}
+
+fn main() {
+    let words: Vec<String> = std::env::args().collect();
+    if let [_, word, function, kib] = &words[..] {
+        assert_eq!(word, "child");
+        return child(function, kib);
+    }
+    for function in ["solve", "audit", "check"] {
+        println!("cuulipso_{function}: {} KiB of stack", least(|kib| library_does(function, kib)));
+    }
+    let file = deepest().bytes();
+    let asked = planned(&file);
+    let tables = asked.tables.expect("whole");
+    let folder = Folder::new("measure-stack");
+    folder.put("file", Some(&file));
+    folder.put("values", Some(&values_bytes(&tables.values)));
+    folder.put("picks", Some(&picks_bytes(&tables.picks)));
+    let (plan, audit) = (Program::named(1, "plan"), Program::named(2, "audit"));
+    let mut command = Command::new(plan.path());
+    command.args(["new-values", "new-picks"]).current_dir(folder.path(""));
+    measure("plan", &command, &file, &asked.lines);
+    let mut command = Command::new(audit.path());
+    command.args(["file", "values", "picks"]).current_dir(folder.path(""));
+    let line = audit_line(Verdict::Accepted { least_cost: 1_000 });
+    measure("audit", &command, &[], &line);
+}

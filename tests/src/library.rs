@@ -1,0 +1,138 @@
+//! The product's C interface (`libcapi.a`), on slices, and what its functions return.
+//!
+//! The functions are inlined into the programs that call them, and only those ask for the archive:
+//! `build.rs` names them.
+
+use crate::solver::{Answer, Tables};
+
+extern "C" {
+    fn cuulipso_check(
+        file: *const u8,
+        file_length: usize,
+        answer: *mut u64,
+        answer_length: usize,
+    ) -> u8;
+    fn cuulipso_rows(
+        file: *const u8,
+        file_length: usize,
+        state: u64,
+        out: *mut u8,
+        out_length: usize,
+    ) -> u64;
+    fn cuulipso_solve(
+        file: *const u8,
+        file_length: usize,
+        budget: u64,
+        values: *mut u32,
+        values_length: usize,
+        picks: *mut u16,
+        picks_length: usize,
+        remembered: *mut u32,
+        remembered_length: usize,
+        walk: *mut u16,
+        walk_length: usize,
+        answer: *mut u64,
+        answer_length: usize,
+    ) -> u8;
+    fn cuulipso_audit(
+        file: *const u8,
+        file_length: usize,
+        values: *const u32,
+        values_length: usize,
+        picks: *const u16,
+        picks_length: usize,
+        answer: *mut i64,
+        answer_length: usize,
+    ) -> u8;
+}
+
+/// The entries that an answer needs.
+pub const ANSWER: usize = 3;
+
+/// The code of a file, of a run, or of an audit that is refused.
+pub const REFUSED: u8 = 0;
+/// The code of a solved run.
+pub const SOLVED: u8 = 1;
+/// The code of a spent run.
+pub const SPENT: u8 = 2;
+/// The code of a file that passes.
+pub const PASSED: u8 = 3;
+/// The code of an audit that accepts.
+pub const ACCEPTED: u8 = 3;
+/// The code of an answer lent too short.
+pub const TOO_SHORT: u8 = 4;
+
+/// The product's check of a file.
+#[inline]
+pub fn check(file: &[u8], answer: &mut [u64]) -> u8 {
+    // SAFETY: each pointer stands with its slice's own length, here and below.
+    unsafe { cuulipso_check(file.as_ptr(), file.len(), answer.as_mut_ptr(), answer.len()) }
+}
+
+/// The product's lookup of a state's rows.
+#[inline]
+pub fn rows(file: &[u8], state: u64, out: &mut [u8]) -> u64 {
+    unsafe { cuulipso_rows(file.as_ptr(), file.len(), state, out.as_mut_ptr(), out.len()) }
+}
+
+/// The product's run.
+#[inline]
+pub fn solve(file: &[u8], budget: u64, tables: Tables, answer: &mut [u64]) -> u8 {
+    let Tables { values, picks, remembered, walk } = tables;
+    unsafe {
+        cuulipso_solve(
+            file.as_ptr(),
+            file.len(),
+            budget,
+            values.as_mut_ptr(),
+            values.len(),
+            picks.as_mut_ptr(),
+            picks.len(),
+            remembered.as_mut_ptr(),
+            remembered.len(),
+            walk.as_mut_ptr(),
+            walk.len(),
+            answer.as_mut_ptr(),
+            answer.len(),
+        )
+    }
+}
+
+/// The product's audit.
+#[inline]
+pub fn audit(file: &[u8], values: &[u32], picks: &[u16], answer: &mut [i64]) -> u8 {
+    unsafe {
+        cuulipso_audit(
+            file.as_ptr(),
+            file.len(),
+            values.as_ptr(),
+            values.len(),
+            picks.as_ptr(),
+            picks.len(),
+            answer.as_mut_ptr(),
+            answer.len(),
+        )
+    }
+}
+
+/// The code and the answer that the paper asks of a run.
+pub fn asked_of_run(answer: Answer) -> (u8, [u64; ANSWER]) {
+    match answer {
+        Answer::Solved { rounds, evaluations, least_cost } => {
+            (SOLVED, [rounds, evaluations, u64::from(least_cost)])
+        }
+        Answer::Spent { rounds, evaluations } => (SPENT, [rounds, evaluations, 0]),
+        Answer::Refused(refusal) => (REFUSED, [refusal.question, refusal.place, 0]),
+    }
+}
+
+/// What a call that asks for a code and an answer leaves where an answer is lent: the code, and the
+/// entries. One lent too short stays as it is.
+pub fn asked_of_lent<T: Copy>(code: u8, answer: [T; ANSWER], lent: &[T]) -> (u8, Vec<T>) {
+    let mut entries = lent.to_vec();
+    match entries.get_mut(..ANSWER) {
+        Some(front) => front.copy_from_slice(&answer),
+        None => return (TOO_SHORT, entries),
+    }
+    (code, entries)
+}

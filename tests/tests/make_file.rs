@@ -1,0 +1,54 @@
+//! `make_file` as a program: what it writes, what it lists, and how it says that it cannot.
+
+use comparisons::examples::{path, stick};
+use comparisons::programs::Folder;
+use std::process::{Command, Output};
+
+/// Runs the maker in a folder.
+fn make_file(folder: &Folder, words: &[&str]) -> Output {
+    let mut command = Command::new(env!("CARGO_BIN_EXE_make_file"));
+    command.args(words).current_dir(folder.path("")).output().expect("it runs")
+}
+
+/// The message of a run that fails.
+fn fault(folder: &Folder, words: &[&str]) -> String {
+    let output = make_file(folder, words);
+    assert!(!output.status.success() && output.stdout.is_empty(), "{words:?}");
+    String::from_utf8(output.stderr).expect("a text")
+}
+
+#[test]
+fn it_makes_and_shows() {
+    let folder = Folder::new("make-file-makes");
+    let output = make_file(&folder, &["make", &path("stick.txt"), "stick"]);
+    assert!(output.status.success() && output.stdout.is_empty() && output.stderr.is_empty());
+    assert_eq!(folder.get("stick"), Some(stick().bytes()));
+    let output = make_file(&folder, &["show", &path("P.txt")]);
+    assert!(output.status.success() && output.stderr.is_empty());
+    assert!(output.stdout.starts_with(b"state 0  first"));
+    assert!(output.stdout.ends_with(b"  row 2  300 s: done 1000\ngoal 2  done\n"));
+}
+
+#[test]
+fn it_names_what_is_wrong() {
+    let folder = Folder::new("make-file-faults");
+    folder.put("text", Some(b"start a\ntolerance 1\npenalty many\n"));
+    let asked = "make_file: text, line 3: `many`: a whole number from 0 to 4294967295 is meant\n";
+    assert_eq!(fault(&folder, &["make", "text", "file"]), asked);
+    assert_eq!(fault(&folder, &["show", "text"]), asked);
+    folder.put("bytes", Some(&[0xff]));
+    assert!(fault(&folder, &["show", "bytes"]).starts_with("make_file: bytes: "));
+    assert!(fault(&folder, &["show", "missing"]).starts_with("make_file: missing: "));
+    let nowhere = fault(&folder, &["make", &path("P.txt"), "nowhere/file"]);
+    assert!(nowhere.starts_with("make_file: nowhere/file: "));
+    assert_eq!(folder.names(), ["bytes", "text"]);
+}
+
+#[test]
+fn it_says_what_to_type() {
+    let folder = Folder::new("make-file-words");
+    for words in [&[][..], &["make"], &["make", "text"], &["show"], &["show", "a", "b"], &["a"]] {
+        let asked = "make_file: give `make TEXT FILE` or `show TEXT`\n";
+        assert_eq!(fault(&folder, words), asked);
+    }
+}
