@@ -27,7 +27,7 @@ shared-slice-read-put-pick : tie.Need-shared-slice-read-put-pick Inv-loop μ-loo
 shared-slice-read-put-pick c = search needs
 
 put-pick-requires : tie.Need-put-pick-requires Inv-loop μ-loop
-put-pick-requires c κs = c .before .before .before .loop .inv .2 .within
+put-pick-requires c κs = omega (arith, c .before .before .before .loop .inv .2 .within)
 
 add-i : tie.Need-add-i Inv-loop μ-loop
 add-i c = search needs

@@ -27,7 +27,7 @@ shared-slice-read-put-value : tie.Need-shared-slice-read-put-value Inv-loop μ-l
 shared-slice-read-put-value c = search needs
 
 put-value-requires : tie.Need-put-value-requires Inv-loop μ-loop
-put-value-requires c κs = c .before .before .before .loop .inv .2 .within
+put-value-requires c κs = omega (arith, c .before .before .before .loop .inv .2 .within)
 
 add-i : tie.Need-add-i Inv-loop μ-loop
 add-i c = search needs

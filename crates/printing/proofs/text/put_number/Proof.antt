@@ -7,6 +7,7 @@ use lib.Seq.{length-take-le}
 use Rattle.printing.proofs.Decimals.{decimal-digits}
 use Rattle.printing.proofs.Putting.{same}
 use borrow.Author.Needs.{needs}
+use native.Mathlib.Omega.{arith}
 use Rattle.printing.proofs.text.put_number.Statement.{statement}
 use Rattle.printing.proofs.text.put_number.Tie as tie
 
@@ -20,7 +21,7 @@ slice-aggregate-put : tie.Need-slice-aggregate-put
 slice-aggregate-put c = search needs
 
 put-requires : tie.Need-put-requires
-put-requires c κs = c .before .before .before .before .before .pre
+put-requires c κs = omega (arith, c .before .before .before .before .before .pre)
 
 same-length : tie.Need-same-length
 same-length c = c .before .before .put .kept .0
