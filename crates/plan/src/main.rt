@@ -5,6 +5,7 @@ use libc::STDERR_FILENO;
 use libc::STDIN_FILENO;
 use libc::STDOUT_FILENO;
 use model::MAX_STATES;
+use model::NO_PICK;
 use printing::files::fail;
 use printing::files::read_whole;
 use printing::tables::put_picks;
@@ -184,7 +185,7 @@ fn plan_input(is_saving: bool) {
     }
     let n = got.length;
     let mut values = [0u32; MAX_STATES];
-    let mut picks = [65534u16; MAX_STATES];
+    let mut picks = [NO_PICK; MAX_STATES];
     let mut out = [0u8; ROOM];
     let planned = printing::plan(&file[..n], &mut values, &mut picks, &mut out);
     let length = planned.length;

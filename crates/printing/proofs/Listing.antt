@@ -1,15 +1,17 @@
--- Laws of the lines of listed states: a state is searched from the front of the list, and lines are put by state number.
-use mathlib.Core.Path.{_≡_, refl, sym, ap}
+-- Laws of the lines of listed states: states are marked from the front of the list on, and lines are put by state number.
+use mathlib.Core.Path.{_≡_, refl, sym, _∙_, ap}
 use Prim.Native.Nat.{ℕ, _+_, _≤_, _<_}
 use native.Mathlib.Omega.{arith}
 use native.Mathlib.Numerals.{add-one}
-use mathlib.Core.Bool.{Bool, true, false}
+use mathlib.Core.Bool.{Bool, true, false, _||_, or-true, or-false}
 use mathlib.Core.List.{List, [], _++_, append-assoc, append-nil}
-use lib.ListN.{length, getD, take, drop, drop-of-length-le}
+use lib.Dec.{eqb}
+use lib.ListN.{length, getD, set, take, drop, replicate, drop-of-length-le}
 use lib.Seq.{drop-cons}
 use borrow.Author.Tests.{eq-eqb, ne-eqb}
-use Rattle.model.specs.Limits.{giveUp}
+use Rattle.model.specs.Limits.{giveUp, maxStates}
 use Rattle.model.specs.Lines.{codes, decimal, blankNumber, listed, lineOn, stateLine, stateLines}
+use Rattle.guarantee.specs.Graphs.{set-entry, clear-entry}
 use Rattle.printing.specs.Texts.{Holds}
 use Rattle.printing.proofs.Putting.{after, same, stands}
 
@@ -26,6 +28,26 @@ module _ (s : ℕ) (walk : List ℕ) (k : ℕ) where
   unfolding listed
   listed-end l = rw (drop-of-length-le walk {i = k} l) refl
 
+-- marking along the list: a state is listed exactly where it is marked, or stands in what is left
+abbrev pub Marking : List ℕ → List ℕ → ℕ → Type 0
+Marking walk marks k = (s : ℕ) → s < maxStates → listed s walk ≡ (eqb (getD marks s 0) 1 || listed s (drop k walk))
+
+pub marks-start : (walk : List ℕ) → Marking walk (replicate maxStates 0) 0
+marks-start walk s l = rw (clear-entry maxStates s) refl
+
+module _ (walk marks : List ℕ) (k : ℕ) (h : Marking walk marks k) where
+  pub marks-go-on : k < length walk → getD walk k 0 < length marks → Marking walk (set marks (getD walk k 0) 1) (k + 1)
+  marks-go-on l inside =
+      set-entry (λ s x. s < maxStates → listed s walk ≡ (eqb x 1 || listed s (drop (k + 1) walk))) marks (getD walk k 0) 1 inside
+      (λ s ne b. h s b ∙ rw (listed-on s walk k l (λ e. ne (sym e))) refl)
+      (λ b. h (getD walk k 0) b ∙ rw (listed-here (getD walk k 0) walk k l refl) (or-true (eqb (getD marks (getD walk k 0) 0) 1)))
+
+  pub marks-skip : k < length walk → maxStates ≤ getD walk k 0 → Marking walk marks (k + 1)
+  marks-skip l beyond s b = h s b ∙ rw (listed-on s walk k l (λ e. omega arith)) refl
+
+  pub marks-end : length walk ≤ k → (s : ℕ) → s < maxStates → eqb (getD marks s 0) 1 ≡ listed s walk
+  marks-end l s b = sym (h s b ∙ rw (listed-end s walk k l) (or-false (eqb (getD marks s 0) 1)))
+
 -- one state more
 pub lines-next
     : (values picks walk : List ℕ) (k : ℕ) → stateLines values picks walk (k + 1)
@@ -41,12 +63,12 @@ module _ (values picks walk out₀ : List ℕ) (at : ℕ) where
 
   pub lines-go-on
       : (out out′ : List ℕ) (to to′ s : ℕ) → length out′ ≡ length out → Holds out to (take at out₀ ++ stateLines values picks walk s)
-      → Holds out′ to′ (take to out ++ lineOn (listed s walk) (stateLine s (getD values s 0) (getD picks s 0)))
+      → (b : Bool) → b ≡ listed s walk → Holds out′ to′ (take to out ++ lineOn b (stateLine s (getD values s 0) (getD picks s 0)))
       → Holds out′ to′ (take at out₀ ++ stateLines values picks walk (s + 1))
-  lines-go-on out out′ to to′ s long h k =
+  lines-go-on out out′ to to′ s long h b told k =
       rw (lines-next values picks walk s)
       (after out out′ (take at out₀) (stateLines values picks walk s)
-      (lineOn (listed s walk) (stateLine s (getD values s 0) (getD picks s 0))) to to′ long h k)
+      (lineOn (listed s walk) (stateLine s (getD values s 0) (getD picks s 0))) to to′ long h (rw told at k))
 
   pub lines-end
       : (out : List ℕ) (to s : ℕ) → s ≤ length walk → length walk ≤ s → Holds out to (take at out₀ ++ stateLines values picks walk s)
@@ -76,14 +98,14 @@ module _ (out b c : List ℕ) (at i j s v r : ℕ) (long : length c ≡ length b
       (same e _ _ n (ap (λ t. take at out ++ t) (append-assoc (decimal s ++ blankNumber v) (blankNumber r) (codes "\n")))
       (after d e (take at out) (decimal s ++ blankNumber v ++ blankNumber r) (codes "\n") m n l′ row g′))
 
--- a line where the state is listed
+-- a line where the state is marked
 pub line-put
-    : (b : Bool) (s : ℕ) (walk out out′ line : List ℕ) (at n : ℕ) → b ≡ listed s walk → b ≡ true → Holds out′ n (take at out ++ line)
-    → Holds out′ n (take at out ++ lineOn (listed s walk) line)
-line-put b s walk out out′ line at n e t h = rw (← e, t) h
+    : (mark : ℕ) (out out′ line : List ℕ) (at n : ℕ) → mark ≡ 1 → Holds out′ n (take at out ++ line)
+    → Holds out′ n (take at out ++ lineOn (eqb mark 1) line)
+line-put mark out out′ line at n e h = rw (eq-eqb mark 1 e) h
 
 pub line-left
-    : (b : Bool) (s : ℕ) (walk out line : List ℕ) (at : ℕ) → b ≡ listed s walk → b ≡ false → at ≤ length out
-    → Holds out at (take at out ++ lineOn (listed s walk) line)
-line-left b s walk out line at e t h =
-    rw (← e, t) (same out (take at out) (take at out ++ []) at (sym (append-nil (take at out))) (stands out at h))
+    : (mark : ℕ) (out line : List ℕ) (at : ℕ) → (mark ≡ 1 → ⊥) → at ≤ length out
+    → Holds out at (take at out ++ lineOn (eqb mark 1) line)
+line-left mark out line at ne h =
+    rw (ne-eqb mark 1 ne) (same out (take at out) (take at out ++ []) at (sym (append-nil (take at out))) (stands out at h))

@@ -8,6 +8,7 @@ use crate::lines::audit_text;
 use crate::lines::plan_text;
 use crate::tables::picks_of;
 use crate::tables::values_of;
+use model::LIST_END;
 use model::MAX_ROWS;
 use model::MAX_STATES;
 use model::SolveAnswer;
@@ -68,7 +69,7 @@ pub fn plan(file: &[u8], values: &mut [u32], picks: &mut [u16], out: &mut [u8]) 
         (r .length) (r .states) ⌝ }
 {
     let mut remembered = [0u32; MAX_ROWS];
-    let mut walk = [65535u16; MAX_STATES];
+    let mut walk = [LIST_END; MAX_STATES];
     let answer = solving::solve::solve(file, ROUNDS, values, picks, &mut remembered, &mut walk);
     let states = states_of(file, answer);
     let length = plan_text(answer, values, picks, &walk[..states], out);

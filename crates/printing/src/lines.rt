@@ -4,14 +4,17 @@ use crate::text::put_next;
 use crate::text::put_number;
 use crate::text::put_signed;
 use model::AuditAnswer;
+use model::GIVE_UP;
+use model::MAX_STATES;
 use model::SolveAnswer;
 ghost use mathlib.Core.Path.{_≡_};
 ghost use mathlib.Core.List.{_++_};
 ghost use Prim.Native.Nat.{_≤_, _<_};
+ghost use lib.Dec.{eqb};
 ghost use lib.ListN.{length, take, getD};
 ghost use Rattle.model.specs.Answers.{answerOf, auditedOf};
-ghost use Rattle.model.specs.Lines.{blankNumber, answerLine, auditLine, listed, lineOn, stateLine, stateLines, runText};
-ghost use Rattle.printing.specs.Texts.{Holds, Brief, lineMost};
+ghost use Rattle.model.specs.Lines.{blankNumber, answerLine, auditLine, lineOn, stateLine, stateLines, runText};
+ghost use Rattle.printing.specs.Texts.{Holds, Brief, Marks, Within, lineMost};
 
 // Puts a word and two numbers at the front of `out`.
 fn put_counts(out: &mut [u8], word: &[u8], a: u64, b: u64) -> usize
@@ -58,36 +61,37 @@ fn put_state(out: &mut [u8], at: usize, state: usize, value: u32, pick: u16) -> 
 {
     let a = put_number(out, at, state as u64);
     let b = put_next(out, a, value as u64);
-    if pick == 65535 {
+    if pick == GIVE_UP {
         return put(out, b, b" give\n");
     }
     let c = put_next(out, b, pick as u64);
     put(out, c, b"\n")
 }
 
-// Whether a state stands in a walk list.
-fn is_listed(walk: &[u16], state: usize) -> bool
-    ensures { λ r. ⌜ r ≡ listed state (now (walk .entry)) ⌝ }
+// A mark for each state, 1 where it stands in a walk list.
+fn marks_of(walk: &[u16]) -> [u8; MAX_STATES]
+    ensures { λ r. ⌜ Marks r (now (walk .entry)) ⌝ }
 {
+    let mut marks = [0u8; MAX_STATES];
     let mut k = 0;
     while k < walk.len() {
         let s = walk[k] as usize;
-        if s == state {
-            return true;
-        }
         k += 1;
+        if s < MAX_STATES {
+            marks[s] = 1;
+        }
     }
-    false
+    marks
 }
 
-// Puts a state's line where it is listed.
-fn put_listed(
+// Puts a state's line where it is marked.
+fn put_marked(
     out: &mut [u8],
     at: usize,
     state: usize,
+    mark: u8,
     values: &[u32],
     picks: &[u16],
-    walk: &[u16],
 ) -> usize
     requires { ⌜ (at ≤ length (now out)) × (state < length (now values)) × (state < length (now picks)) ⌝ }
     ensures { λ r.
@@ -95,10 +99,9 @@ fn put_listed(
         (now (out .exit)) r
         (take at (now (out .entry))
         ++ lineOn
-        (listed state (now (walk .entry)))
-        (stateLine state (getD (now (values .entry)) state 0) (getD (now (picks .entry)) state 0))) ⌝ }
+        (eqb mark 1) (stateLine state (getD (now (values .entry)) state 0) (getD (now (picks .entry)) state 0))) ⌝ }
 {
-    if is_listed(walk, state) {
+    if mark == 1 {
         return put_state(out, at, state, values[state], picks[state]);
     }
     at
@@ -106,17 +109,18 @@ fn put_listed(
 
 // Puts the lines of the listed states, by state number.
 fn put_states(out: &mut [u8], at: usize, values: &[u32], picks: &[u16], walk: &[u16]) -> usize
-    requires { ⌜ (at ≤ length (now out)) × (length (now walk) ≤ length (now values)) × (length (now walk) ≤ length (now picks)) ⌝ }
+    requires { ⌜ (at ≤ length (now out)) × Within (now walk) (now values) (now picks) ⌝ }
     ensures { λ r.
         ⌜ Holds
         (now (out .exit)) r
         (take at (now (out .entry))
         ++ stateLines (now (values .entry)) (now (picks .entry)) (now (walk .entry)) (length (now (walk .entry)))) ⌝ }
 {
+    let marks = marks_of(walk);
     let mut to = at;
     let mut s = 0;
     while s < walk.len() {
-        to = put_listed(out, to, s, values, picks, walk);
+        to = put_marked(out, to, s, marks[s], values, picks);
         s += 1;
     }
     to
@@ -130,7 +134,7 @@ pub fn plan_text(
     walk: &[u16],
     out: &mut [u8],
 ) -> usize
-    requires { ⌜ (length (now walk) ≤ length (now values)) × (length (now walk) ≤ length (now picks)) ⌝ }
+    requires { ⌜ Within (now walk) (now values) (now picks) ⌝ }
     ensures { λ r.
         ⌜ Holds
         (now (out .exit)) r

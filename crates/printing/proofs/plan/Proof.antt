@@ -2,8 +2,9 @@
 -- Made by `places make` from answers/plan.ans: edit that file, and not this one.
 use mathlib.Core.Path.{_≡_, _∙_, sym}
 use native.Mathlib.Nat.{le-trans, le-of-eq}
-use Prim.Native.Nat.{_≤_}
-use lib.ListN.{length}
+use Prim.Native.Nat.{ℕ, _≤_}
+use lib.ListN.{length, length-replicate}
+use Rattle.model.specs.Limits.{maxStates, listEnd}
 use lib.Seq.{length-take-le}
 use Rattle.printing.proofs.Planning.{run-room, plans}
 use borrow.Author.Needs.{needs}
@@ -43,10 +44,15 @@ slice-aggregate-plan-text : tie.Need-slice-aggregate-plan-text
 slice-aggregate-plan-text c = sym (length-take-le _ _ (walk-room (c .before .before .before)))
 
 plan-text-requires : tie.Need-plan-text-requires
-plan-text-requires c κs = (
-  le-trans (le-of-eq (length-take-le _ _ (walk-room (c .before .before .before .before)))) (values-room (c .before .before .before .before)),
-  le-trans (le-of-eq (length-take-le _ _ (walk-room (c .before .before .before .before)))) (picks-room (c .before .before .before .before)),
-)
+plan-text-requires c κs =
+    let listed = le-of-eq (length-take-le _ _ (walk-room (c .before .before .before .before))) in
+    record {
+      states =
+          le-trans listed
+          (le-trans (walk-room (c .before .before .before .before)) (le-of-eq (c .before .before .before .before .before .before .before .before .before .before .before .solve .kept .1 .1 .1 .1 .1 .0 ∙ length-replicate {A = ℕ} maxStates listEnd)));
+      values-long = le-trans listed (values-room (c .before .before .before .before));
+      picks-long = le-trans listed (picks-room (c .before .before .before .before));
+    }
 
 same-length : tie.Need-same-length
 same-length c = c .before .before .before .before .before .before .before .before .before .before .before .before .before .before .solve .kept .1 .1 .0

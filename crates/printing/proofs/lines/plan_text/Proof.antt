@@ -12,7 +12,7 @@ put-answer-requires : tie.Need-put-answer-requires
 put-answer-requires c κs = search needs
 
 put-states-requires : tie.Need-put-states-requires
-put-states-requires c κs = (c .before .before .before .put-answer .ensures .0 .within, c .before .before .before .before .before .before .before .before .before .pre .0, c .before .before .before .before .before .before .before .before .before .pre .1)
+put-states-requires c κs = (c .before .before .before .put-answer .ensures .0 .within, c .before .before .before .before .before .before .before .before .before .pre)
 
 same-length : tie.Need-same-length
 same-length c = c .before .before .put-states .kept .0 ∙ (c .before .before .before .before .before .before .put-answer .kept .0)

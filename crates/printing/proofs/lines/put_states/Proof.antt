@@ -13,17 +13,26 @@ use Rattle.printing.proofs.lines.put_states.Statement.{statement}
 use Rattle.printing.proofs.lines.put_states.Tie as tie
 
 abbrev Inv-loop : tie.InvT-loop
-Inv-loop out₀ at values picks walk to₀ s₀ out to s = (s ≤ length walk) × (length out ≡ length out₀) × Holds out to (take at out₀ ++ stateLines values picks walk s)
+Inv-loop out₀ at values picks walk marks to₀ s₀ out to s = (s ≤ length walk) × (length out ≡ length out₀) × Holds out to (take at out₀ ++ stateLines values picks walk s)
 
 abbrev μ-loop : tie.MeasureT-loop
-μ-loop out₀ at values picks walk to₀ s₀ out to s = length walk - s
+μ-loop out₀ at values picks walk marks to₀ s₀ out to s = length walk - s
+
+marks-of-requires : tie.Need-marks-of-requires Inv-loop μ-loop
+marks-of-requires c κs = search needs
 
 loop-holds : tie.Need-loop-holds Inv-loop μ-loop
-loop-holds c = (omega arith, refl, lines-start _ _ _ _ _ (c .before .before .before .before .pre .0))
+loop-holds c = (omega arith, refl, lines-start _ _ _ _ _ (c .before .before .before .before .before .pre .0))
 
-put-listed-requires : tie.Need-put-listed-requires Inv-loop μ-loop
-put-listed-requires c κs =
-    (c .before .before .loop .inv .2 .within, omega (arith, c .before .loop-test .taken, c .before .before .before .before .before .before .before .pre), omega (arith, c .before .loop-test .taken, c .before .before .before .before .before .before .before .pre))
+array-read-put-marked : tie.Need-array-read-put-marked Inv-loop μ-loop
+array-read-put-marked c = omega (arith, c .before .loop-test .taken, c .before .before .before .before .before .before .before .before .pre .1 .states)
+
+put-marked-requires : tie.Need-put-marked-requires Inv-loop μ-loop
+put-marked-requires c κs = (
+  c .before .before .loop .inv .2 .within,
+  omega (arith, c .before .loop-test .taken, c .before .before .before .before .before .before .before .before .pre .1 .values-long),
+  omega (arith, c .before .loop-test .taken, c .before .before .before .before .before .before .before .before .pre .1 .picks-long),
+)
 
 add-s : tie.Need-add-s Inv-loop μ-loop
 add-s c = search needs
@@ -34,11 +43,12 @@ loop-less c = search needs
 loop-again : tie.Need-loop-again Inv-loop μ-loop
 loop-again c = (
   omega (arith, c .before .before .before .before .loop-test .taken),
-  c .before .before .put-listed .kept .0 ∙ (c .before .before .before .before .before .loop .inv .1),
-  lines-go-on (c .before .before .before .before .before .before .before .before .before .before .args .values .now) (c .before .before .before .before .before .before .before .before .before .before .args .picks .now) (c .before .before .before .before .before .before .before .before .before .before .args .walk .now) (c .before .before .before .before .before .before .before .before .before .before .args .out .now)
-      (c .before .before .before .before .before .before .before .before .before .before .args .at)
-      (c .before .before .before .before .before .loop .out) (c .before .before .put-listed .last .0) (c .before .before .before .before .before .loop .to) (c .before .before .put-listed .result) (c .before .before .before .before .before .loop .s)
-      (c .before .before .put-listed .kept .0) (c .before .before .before .before .before .loop .inv .2) (c .before .before .put-listed .ensures),
+  c .before .before .put-marked .kept .0 ∙ (c .before .before .before .before .before .loop .inv .1),
+  lines-go-on (c .before .before .before .before .before .before .before .before .before .before .before .args .values .now) (c .before .before .before .before .before .before .before .before .before .before .before .args .picks .now) (c .before .before .before .before .before .before .before .before .before .before .before .args .walk .now) (c .before .before .before .before .before .before .before .before .before .before .before .args .out .now)
+      (c .before .before .before .before .before .before .before .before .before .before .before .args .at)
+      (c .before .before .before .before .before .loop .out) (c .before .before .put-marked .last .0) (c .before .before .before .before .before .loop .to) (c .before .before .put-marked .result) (c .before .before .before .before .before .loop .s)
+      (c .before .before .put-marked .kept .0) (c .before .before .before .before .before .loop .inv .2)
+      _ (c .before .before .before .before .before .before .marks-of .ensures .tells (c .before .before .before .before .before .loop .s) (omega (arith, c .before .before .before .before .loop-test .taken, c .before .before .before .before .before .before .before .before .before .before .before .pre .1 .states))) (c .before .before .put-marked .ensures),
 )
 
 same-length : tie.Need-same-length Inv-loop μ-loop
@@ -46,16 +56,18 @@ same-length c = c .before .loop .inv .1
 
 returns : tie.Need-returns Inv-loop μ-loop
 returns c =
-    lines-end (c .before .before .before .before .before .before .args .values .now) (c .before .before .before .before .before .before .args .picks .now) (c .before .before .before .before .before .before .args .walk .now) (c .before .before .before .before .before .before .args .out .now)
-    (c .before .before .before .before .before .before .args .at) _ _ _
+    lines-end (c .before .before .before .before .before .before .before .args .values .now) (c .before .before .before .before .before .before .before .args .picks .now) (c .before .before .before .before .before .before .before .args .walk .now) (c .before .before .before .before .before .before .before .args .out .now)
+    (c .before .before .before .before .before .before .before .args .at) _ _ _
     (c .before .loop .inv .0) (c .loop-test .left) (c .before .loop .inv .2)
 
 pub put-states-spec : {M : Type 1} → statement M
 put-states-spec =
     tie.close
     (tie.spec Inv-loop μ-loop
+    marks-of-requires
     loop-holds
-    put-listed-requires
+    array-read-put-marked
+    put-marked-requires
     add-s
     loop-less
     loop-again
