@@ -39,11 +39,12 @@ fn write_closing(fd: i32, bytes: &[u8]) -> bool {
     is_written
 }
 
-// Whether a table may be put under this name: it is free, or a file that may be written. A folder or a device is not.
+// Whether a table may be put under this name: it is free, or a file that may be written. A folder or a device is not, nor is a name of
+// no bytes, which no file can have.
 fn is_free(name: &[u8]) -> bool {
     let fd = os::open_append(name);
     if fd < 0 {
-        return os::errno() == ENOENT;
+        return os::errno() == ENOENT && 0 < name.len();
     }
     let is_file = libc::fsync(fd) == 0;
     libc::close(fd);

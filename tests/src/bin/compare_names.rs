@@ -76,20 +76,7 @@ impl Room {
         let said = self.plan.run(&self.folder, &[values, picks], &file);
         self.tally.hold("the lines", &said.output, &plan_lines(&file));
         self.hold_message(&said.messages, &front("plan", &at_fault.to_string_lossy()));
-        if picks.is_empty() {
-            self.put_back(values.to_str().expect("a plain name"));
-        }
         self.hold_folder();
-    }
-
-    /// Takes away the values that `plan` wrote beside an empty name for picks. The part of an empty
-    /// name, `.part`, can be written, and only its renaming fails; by then the values have their
-    /// name. They must be whole, and what stood there before is put back.
-    fn put_back(&mut self, other: &str) {
-        let tables = planned(&file_p().bytes()).tables.expect("P passes");
-        if self.folder.get(other) == Some(values_bytes(&tables.values)) {
-            self.folder.put(other, STANDING.contains(&other).then_some(OLD));
-        }
     }
 
     /// All names that cannot be written, each for values and for picks.
