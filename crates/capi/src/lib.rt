@@ -3,14 +3,14 @@ use model::AuditAnswer;
 use model::FileAnswer;
 use model::SolveAnswer;
 ghost use mathlib.Core.Path.{_≡_};
-ghost use Prim.Native.Nat.{ℕ, _≤_};
+ghost use Prim.Native.Nat.{_≤_};
 ghost use lib.ListN.{length};
 ghost use Rattle.model.specs.Audit.{audit};
 ghost use Rattle.model.specs.Lookup.{rowsOf};
 ghost use Rattle.model.specs.Questions.{fileQuestions};
 ghost use Rattle.model.specs.Solution.{solution};
 ghost use Rattle.solving.specs.Solving.{tables};
-ghost use Rattle.capi.specs.Interface.{Numbers, Written, Solves, checkNumbers, auditNumbers, copied, three};
+ghost use Rattle.capi.specs.Interface.{Written, Solves, checkNumbers, auditNumbers, copied, three};
 
 // Writes three numbers to the front of a table that has room for them.
 fn put3(answer: &mut [u64], a: u64, b: u64, c: u64)

@@ -1,6 +1,4 @@
 -- "When an answer is an enum, a definition gives this paper's number and values for each of its cases."
-use Prim.Native.Nat.{ℕ}
-use mathlib.Core.List.{List, [], _∷_}
 use Rattle.model.specs.Questions.{Verdict, passes, fails}
 use Rattle.model.specs.Solution.{Answer, solved, spent, refused}
 use Rattle.model.specs.Audit.{Audited, accepted, refused as audit-refused}

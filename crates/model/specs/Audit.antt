@@ -1,12 +1,12 @@
 -- "The audit": questions 15 to 19 of a file with a values table and a picks table, and what accepted carries.
-use Prim.Native.Nat.{ℕ, zero, suc, _+_, _-_}
+use Prim.Native.Nat.{ℕ, _+_, _-_}
 use mathlib.Core.Bool.{Bool, true, false, _&&_, _||_, not}
 use mathlib.Core.List.{List}
-use lib.Dec.{leb, ltb, eqb}
+use lib.Dec.{leb, eqb}
 use lib.ListN.{getD, length}
 use lib.IntN.{ℤ, pos, subℕ}
 use Rattle.model.specs.Limits.{giveUp}
-use Rattle.model.specs.Problem.{Problem, giveUpCost, endRow, ownRow}
+use Rattle.model.specs.Problem.{Problem, giveUpCost, ownRow}
 use Rattle.model.specs.Search.{first}
 use Rattle.model.specs.Sections.{problemOf}
 use Rattle.model.specs.Value.{rowValue, entry}

@@ -5,7 +5,6 @@ use mathlib.Core.Bool.{Bool, true, false}
 use mathlib.Core.List.{List, []}
 use lib.Dec.{ltb}
 use lib.ListN.{take, drop}
-use Rattle.model.specs.Problem.{Problem}
 use Rattle.model.specs.Sections.{problemOf, rowAt}
 use Rattle.model.specs.Questions.{Verdict, passes, fails, fileQuestions}
 

@@ -7,7 +7,6 @@ use model::AuditAnswer;
 use model::GIVE_UP;
 use model::MAX_STATES;
 use model::SolveAnswer;
-ghost use mathlib.Core.Path.{_≡_};
 ghost use mathlib.Core.List.{_++_};
 ghost use Prim.Native.Nat.{_≤_, _<_};
 ghost use lib.Dec.{eqb};

@@ -1,23 +1,23 @@
 -- The stretches of questions 4 to 11 as the code puts them: each question's answer, from what the loops found.
 -- A loop speaks of where its items begin; the layout says that this is where the model reads them.
-use mathlib.Core.Path.{_≡_, refl, _∙_, sym, ap}
-use Prim.Native.Nat.{ℕ, zero, suc, _+_, _*_, _≤_, _<_}
+use mathlib.Core.Path.{_≡_, _∙_, sym}
+use Prim.Native.Nat.{ℕ, _+_, _*_, _≤_, _<_}
 use native.Mathlib.Omega.{arith}
-use mathlib.Core.Bool.{Bool, true, false, not}
+use mathlib.Core.Bool.{true, not}
 use mathlib.Core.List.{List}
 use lib.Dec.{leb, ltb, eqb}
 use lib.ListN.{length, getD, replicate, length-replicate}
 use borrow.Author.Tests.{lt-leb, le-leb, eq-eqb, ne-eqb, ltb-true}
-use Rattle.model.specs.Bytes.{u16At, u32At}
+use Rattle.model.specs.Bytes.{u32At}
 use Rattle.model.specs.Limits.{maxStates, maxTolerance, maxPenalty}
-use Rattle.model.specs.Problem.{Problem, endRow, giveUpCost}
+use Rattle.model.specs.Problem.{Problem, endRow}
 use Rattle.model.specs.Questions.{Verdict, passes, fails, _then_, ask, between}
 use Rattle.model.specs.Questions.{layoutQuestions, settingQuestions, stateQuestion, startQuestion}
 use Rattle.model.specs.Questions.{rowNumberQuestion, rowQuestion, outcomeNumberQuestion, outcomeQuestion, estimateQuestion, itemQuestions}
-use Rattle.model.specs.Questions.{fileQuestions, undercutState, undercutRow}
+use Rattle.model.specs.Questions.{fileQuestions, undercutState}
 use Rattle.model.specs.Rounds.{fillTo}
 use Rattle.model.specs.Search.{first, sumTo}
-use Rattle.model.specs.Sections.{problemOf, statesAt, rowsAt, outcomesAt, goalByteOf, settingOf}
+use Rattle.model.specs.Sections.{problemOf}
 use Rattle.model.specs.Value.{entry}
 use Rattle.guarantee.specs.Searches.{each-yes, ask-yes, then-first, then-next}
 use Rattle.guarantee.specs.Tables.{fill-entry}
@@ -25,11 +25,11 @@ use Rattle.guarantee.specs.Undercutting.{undercut-state-same, undercut-row-same
 use Rattle.guarantee.specs.WellFormed.{sectioned, between-high}
 use Rattle.reading.specs.Asked.{RowsAsked, RowsAnswered, ValuesAsked, ValuesAnswered, ItemsAnswered, FileAnswered}
 use Rattle.reading.specs.Indexed.{Indexed}
-use Rattle.reading.specs.Laid.{LaidOut, Set, SettingAnswer}
-use Rattle.reading.specs.Ready.{Ready, Undercuts}
+use Rattle.reading.specs.Laid.{Set, SettingAnswer}
+use Rattle.reading.specs.Ready.{Undercuts}
 use Rattle.reading.specs.Tests.{stateTest, rowTest, rowCountAt, outcomeCountAt, RowsIndexed, indexSize}
 use Rattle.reading.specs.Tests.{outcomesIn, outcomesTest, partOf}
-use Rattle.reading.proofs.Indexing.{Filled, indexed, same-search, ready}
+use Rattle.reading.proofs.Indexing.{indexed, same-search, ready}
 
 -- a refusal passes nothing
 pub no-pass : {A : Type 0} (q i : ℕ) → fails q i ≡ passes → A

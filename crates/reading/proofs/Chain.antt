@@ -1,11 +1,11 @@
 -- The chain of questions 1 to 3 as the code walks it: what one section's answer says, and where the next section begins.
-use mathlib.Core.Path.{_≡_, refl, _∙_, ap}
+use mathlib.Core.Path.{_≡_, refl, _∙_}
 use Prim.Native.Nat.{ℕ, zero, suc, _+_, _*_, _≤_}
 use native.Mathlib.Omega.{arith}
 use mathlib.Core.List.{List}
 use lib.ListN.{length}
 use Rattle.model.specs.Bytes.{u16At}
-use Rattle.model.specs.Questions.{Verdict, passes, fails, sectionQuestions, layoutQuestions}
+use Rattle.model.specs.Questions.{passes, fails, sectionQuestions, layoutQuestions}
 use Rattle.model.specs.Sections.{sectionEnd, statesAt, rowsAt, outcomesAt, fileEnd}
 use Rattle.guarantee.specs.WellFormed.{Sectioned, sectioned}
 use Rattle.reading.specs.Laid.{LaidOut}

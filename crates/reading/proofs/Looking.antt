@@ -1,16 +1,13 @@
 -- The lookup: the ends of a state's rows as the index has them lie in the file, and the part between them is the stretch.
-use mathlib.Core.Path.{_≡_, refl, _∙_, sym, ap}
+use mathlib.Core.Path.{_≡_}
 use Prim.Native.Nat.{ℕ, _+_, _-_, _*_, _≤_, _<_}
 use native.Mathlib.Omega.{arith}
-use mathlib.Core.Bool.{true, false}
 use mathlib.Core.List.{List, []}
-use lib.Dec.{ltb}
 use lib.ListN.{length, getD, take, drop}
 use borrow.Author.Tests.{lt-ltb, le-ltb}
 use Rattle.model.specs.Lookup.{rowsOf, rowsOn, stretch}
-use Rattle.model.specs.Problem.{endRow}
 use Rattle.model.specs.Questions.{passes, fails, fileQuestions}
-use Rattle.model.specs.Sections.{problemOf, rowsAt}
+use Rattle.model.specs.Sections.{problemOf}
 use Rattle.reading.specs.Laid.{LaidOut}
 use Rattle.reading.specs.Ready.{Ready}
 use Rattle.reading.proofs.RowParts.{rows-begin, rows-end}

@@ -13,9 +13,9 @@ use lib.ListN.{length, getD, take, drop, length-drop}
 use lib.Seq.{getD-take, length-take-le}
 use Rattle.model.specs.Bytes.{u16At}
 use Rattle.model.specs.Limits.{weightTotal}
-use Rattle.model.specs.Problem.{Problem, endRow}
+use Rattle.model.specs.Problem.{endRow}
 use Rattle.model.specs.Sections.{problemOf, rateSeconds, secondsOn, rowAt, kindOf, costNumberOf, outcomeAt, outcomeCountOf, outcomesFrom}
-use Rattle.model.specs.Value.{weightedSum, rowTicks, rowValue}
+use Rattle.model.specs.Value.{weightedSum, rowValue}
 use Rattle.guarantee.specs.Parts.{outcomes-front}
 use Rattle.reading.specs.Ready.{Ready, RowReady, SumThere}
 use Rattle.reading.specs.Tests.{rowsBase, partOf, outcomesIn}

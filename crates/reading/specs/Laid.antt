@@ -4,11 +4,11 @@ use Prim.Native.Nat.{ℕ, _+_, _*_, _≤_}
 use mathlib.Core.List.{List}
 use lib.Dec.{leb}
 use lib.ListN.{length}
-use Rattle.model.specs.Bytes.{u16At, u32At}
+use Rattle.model.specs.Bytes.{u16At}
 use Rattle.model.specs.Limits.{maxStates, maxRows, maxOutcomes}
 use Rattle.model.specs.Problem.{Problem}
-use Rattle.model.specs.Questions.{Verdict, passes, ask, layoutQuestions, settingQuestions}
-use Rattle.model.specs.Sections.{problemOf, statesAt, rowsAt, outcomesAt, settingOf}
+use Rattle.model.specs.Questions.{ask, settingQuestions}
+use Rattle.model.specs.Sections.{statesAt, rowsAt, outcomesAt, settingOf}
 
 pub record LaidOut (f : List ℕ) (at1 states at2 rows at3 outcomes : ℕ) : Type 0 where
   pub states-at : at1 ≡ statesAt f + 2

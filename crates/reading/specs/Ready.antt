@@ -5,7 +5,7 @@ use mathlib.Core.List.{List}
 use lib.ListN.{length, getD, drop}
 use Rattle.model.specs.Bytes.{u16At}
 use Rattle.model.specs.Limits.{maxStates, maxRows}
-use Rattle.model.specs.Problem.{Problem, endRow}
+use Rattle.model.specs.Problem.{endRow}
 use Rattle.model.specs.Sections.{problemOf, statesAt, outcomeAt, outcomeCountOf}
 use Rattle.model.specs.Questions.{undercutState, undercutRow}
 use Rattle.model.specs.Value.{rowTicks}

@@ -10,7 +10,7 @@ ghost use mathlib.Core.Path.{_≡_};
 ghost use mathlib.Core.Bool.{true};
 ghost use Prim.Native.Nat.{ℕ, _+_, _*_, _≤_, _<_};
 ghost use lib.Dec.{eqb};
-ghost use lib.ListN.{length, getD, set};
+ghost use lib.ListN.{length};
 ghost use Rattle.model.specs.Limits.{maxRows, maxStates, ticksPerSecond};
 ghost use Rattle.model.specs.Questions.{costObeys};
 ghost use Rattle.model.specs.Rounds.{fillTo};

@@ -10,12 +10,10 @@ use model::MAX_TOLERANCE;
 use model::SETTING_COUNT;
 ghost use mathlib.Core.Path.{_≡_};
 ghost use Prim.Native.Nat.{ℕ, _+_, _≤_, _<_};
-ghost use lib.Dec.{leb};
 ghost use lib.ListN.{length};
 ghost use Rattle.model.specs.Answers.{verdictOf};
-ghost use Rattle.model.specs.Problem.{Problem};
-ghost use Rattle.model.specs.Questions.{passes, ask, sectionQuestions, layoutQuestions, settingQuestions};
-ghost use Rattle.model.specs.Sections.{sectionEnd, settingOf};
+ghost use Rattle.model.specs.Questions.{passes, sectionQuestions, layoutQuestions};
+ghost use Rattle.model.specs.Sections.{sectionEnd};
 ghost use Rattle.reading.specs.Tests.{failing};
 ghost use Rattle.reading.specs.Laid.{LaidOut, Set, SettingAnswer};
 

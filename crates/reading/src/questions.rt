@@ -17,12 +17,12 @@ use model::FileAnswer;
 use model::MAX_STATES;
 use model::TICKS_PER_SECOND;
 ghost use mathlib.Core.Path.{_≡_};
-ghost use Prim.Native.Nat.{ℕ, _<_};
+ghost use Prim.Native.Nat.{_<_};
 ghost use lib.ListN.{length};
 ghost use Rattle.model.specs.Answers.{verdictOf};
 ghost use Rattle.model.specs.Limits.{valueBound};
 ghost use Rattle.model.specs.Lookup.{rowsOf};
-ghost use Rattle.model.specs.Questions.{passes, fails, layoutQuestions, fileQuestions};
+ghost use Rattle.model.specs.Questions.{fails, fileQuestions};
 ghost use Rattle.reading.specs.Asked.{RowsAsked, RowsAnswered, ValuesAsked, ValuesAnswered, ItemsAnswered, FileAnswered};
 ghost use Rattle.reading.specs.Tests.{indexSize};
 

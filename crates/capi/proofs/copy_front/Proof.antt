@@ -1,9 +1,9 @@
 -- `copy_front` copies as far as it fits: after i bytes the front of `to` is the front of `from`.
 -- Made by `places make` from answers/copy_front.ans: edit that file, and not this one.
 use borrow.Author.Tests.{ltb-true, ltb-false}
-use mathlib.Core.Path.{_≡_, refl, _∙_, ap}
+use mathlib.Core.Path.{_≡_, refl, _∙_}
 use Prim.Native.Nat.{_≤_, _<_, _-_}
-use lib.ListN.{length, length-set, set}
+use lib.ListN.{length, length-set}
 use Rattle.capi.proofs.Copies.{copiedTo, copy-more, copy-whole, copy-full}
 use native.Mathlib.Omega.{arith}
 use Rattle.capi.proofs.copy_front.Statement.{statement}

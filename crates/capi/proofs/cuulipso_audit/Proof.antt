@@ -1,7 +1,7 @@
 -- `cuulipso_audit` hands back the numbers of the audit's answer, or 4 where there is no room.
 -- Made by `places make` from answers/cuulipso_audit.ans: edit that file, and not this one.
 use borrow.Author.Tests.{le-leb, lt-leb}
-use mathlib.Core.Path.{_≡_, refl, _∙_, sym, ap}
+use mathlib.Core.Path.{_∙_, sym, ap}
 use mir.Syntax.{w64}
 use mir.ValLaws.{toZ-pos, toZ-ofZ}
 use Rattle.model.specs.Answers.{auditedOf}

@@ -1,7 +1,6 @@
 -- `cuulipso_rows` hands back the stretch's length and copies the stretch.
 -- Made by `places make` from answers/cuulipso_rows.ans: edit that file, and not this one.
-use mathlib.Core.Path.{_≡_, refl, _∙_, sym, ap}
-use lib.ListN.{length}
+use mathlib.Core.Path.{_∙_}
 use borrow.Author.Needs.{needs}
 use Rattle.capi.proofs.cuulipso_rows.Statement.{statement}
 use Rattle.capi.proofs.cuulipso_rows.Tie as tie

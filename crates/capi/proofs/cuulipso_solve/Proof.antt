@@ -1,7 +1,7 @@
 -- `cuulipso_solve` hands back the numbers and the tables of the solution, or 4 where there is no room.
 -- Made by `places make` from answers/cuulipso_solve.ans: edit that file, and not this one.
 use borrow.Author.Tests.{le-leb, lt-leb}
-use mathlib.Core.Path.{_≡_, refl, _∙_, sym, ap}
+use mathlib.Core.Path.{_∙_, sym, ap}
 use Rattle.model.specs.Answers.{answerOf}
 use borrow.Author.Needs.{needs}
 use Rattle.capi.proofs.cuulipso_solve.Statement.{statement}

@@ -1,6 +1,6 @@
 -- `plan` solves the file and puts the text of what was left: the states of a run lie within the tables.
 -- Made by `places make` from answers/plan.ans: edit that file, and not this one.
-use mathlib.Core.Path.{_≡_, _∙_, sym}
+use mathlib.Core.Path.{_∙_, sym}
 use native.Mathlib.Nat.{le-trans, le-of-eq}
 use Prim.Native.Nat.{ℕ, _≤_}
 use lib.ListN.{length, length-replicate}

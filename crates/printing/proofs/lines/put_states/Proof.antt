@@ -1,7 +1,7 @@
 -- `put_states` puts a line for each listed state: so many states are done as turns.
 -- Made by `places make` from answers/lines/put_states.ans: edit that file, and not this one.
 use Prim.Native.Nat.{_≤_, _-_}
-use mathlib.Core.Path.{_≡_, refl, sym, _∙_, ap}
+use mathlib.Core.Path.{_≡_, refl, _∙_}
 use mathlib.Core.List.{_++_}
 use lib.ListN.{length, take}
 use Rattle.model.specs.Lines.{stateLines}

@@ -1,8 +1,7 @@
 -- `picks_of` reads entry after entry: so many entries as turns stand at the front.
 -- Made by `places make` from answers/tables/picks_of.ans: edit that file, and not this one.
 use borrow.Author.Tests.{ltb-true, ltb-false}
-use Prim.Native.Nat.{_≤_, _-_, _*_}
-use lib.ListN.{length}
+use Prim.Native.Nat.{_-_, _*_}
 use Rattle.model.specs.Bytes.{u16At}
 use Rattle.model.specs.TableFiles.{entries16}
 use Rattle.printing.proofs.Entries.{Read, read-starts, read-goes-on, read-full, read-ends}

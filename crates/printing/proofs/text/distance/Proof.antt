@@ -4,7 +4,7 @@ use mathlib.Core.Path.{_≡_, ap}
 use mathlib.Core.Bool.{true, false}
 use lib.IntN.{natAbs, pos}
 use lib.Signed.{ltZ}
-use Rattle.printing.proofs.Signed.{Turned, tested, up-fits, over-fits, turned, kept, not-below, distance-fits}
+use Rattle.printing.proofs.Signed.{tested, up-fits, over-fits, turned, kept, not-below, distance-fits}
 use native.Mathlib.Omega.{arith}
 use Rattle.printing.proofs.text.distance.Statement.{statement}
 use Rattle.printing.proofs.text.distance.Tie as tie

@@ -3,7 +3,6 @@
 use mathlib.Core.Path.{_∙_, ap}
 use mathlib.Core.List.{_++_}
 use lib.ListN.{take}
-use lib.Seq.{length-take-le}
 use Rattle.printing.proofs.Decimals.{decimal-digits}
 use Rattle.printing.proofs.Putting.{same}
 use borrow.Author.Needs.{needs}

@@ -1,7 +1,7 @@
 -- `index_rows` fills in the rows. So far the total is the sum and the entries are made, and a row has at most 255 outcomes.
 -- Made by `places make` from answers/index/index_rows.ans: edit that file, and not this one.
 use Prim.Native.Nat.{_≤_, _-_, _*_, _+_}
-use mathlib.Core.Path.{_≡_, refl, _∙_, sym}
+use mathlib.Core.Path.{_≡_, refl}
 use Rattle.model.specs.Search.{sumTo}
 use Rattle.guarantee.specs.Searches.{sum-next}
 use Rattle.guarantee.specs.WellFormed.{row-cost}

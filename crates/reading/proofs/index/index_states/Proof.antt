@@ -1,7 +1,7 @@
 -- `index_states` fills in the first rows. So far the total is the sum and the table is filled, and a state has at most 255 rows.
 -- Made by `places make` from answers/index/index_states.ans: edit that file, and not this one.
 use Prim.Native.Nat.{_≤_, _-_, _*_}
-use mathlib.Core.Path.{_≡_, refl, _∙_, sym}
+use mathlib.Core.Path.{_≡_, refl}
 use Rattle.model.specs.Search.{sumTo}
 use Rattle.model.specs.Rounds.{fillTo}
 use Rattle.guarantee.specs.Searches.{sum-next}

@@ -1,7 +1,6 @@
 -- `ticks` answers the cost in ticks: a cost number in its kind's range gives at most 65,535 seconds.
 -- Made by `places make` from answers/index/ticks.ans: edit that file, and not this one.
 use borrow.Author.Tests.{eq-eqb, ne-eqb}
-use mathlib.Core.Path.{_≡_}
 use Rattle.model.specs.Sections.{secondsOn, rateSeconds}
 use Rattle.guarantee.specs.WellFormed.{rate-high}
 use Rattle.reading.proofs.Indexing.{seconds-fit, rate-fits}

@@ -6,14 +6,13 @@ use native.Mathlib.Nat.{sub-zero, zero-add, add-zero}
 use Prim.Native.Nat.{_≤_, _<_, _-_, _+_, _*_, _/_}
 use lib.ListN.{length}
 use mathlib.Core.Path.{_≡_, _∙_, sym}
-use mathlib.Core.Bool.{Bool, true, false, and-false}
+use mathlib.Core.Bool.{and-false}
 use Rattle.model.specs.Bytes.{u16At}
 use Rattle.model.specs.Questions.{outcomesObey}
 use Rattle.model.specs.Sections.{outcomesFrom}
 use Rattle.model.specs.Value.{totalWeight}
 use Rattle.guarantee.specs.Searches.{and-not-left}
-use Rattle.guarantee.specs.Parts.{outcomeIn, outcomeObeys, obey-fails, obey-goes-on, weight-goes-on, outcomes-end}
-use Rattle.reading.specs.Tests.{outcomesIn}
+use Rattle.guarantee.specs.Parts.{obey-fails, obey-goes-on, weight-goes-on, outcomes-end}
 use native.Mathlib.Omega.{arith}
 use Rattle.reading.proofs.items.outcomes_obey.Statement.{statement}
 use Rattle.reading.proofs.items.outcomes_obey.Tie as tie

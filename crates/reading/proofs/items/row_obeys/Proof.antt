@@ -1,6 +1,6 @@
 -- `row_obeys` answers whether a row obeys section 2. Each return rewrites the test with what led there.
 -- Made by `places make` from answers/items/row_obeys.ans: edit that file, and not this one.
-use borrow.Author.Tests.{lt-leb, le-leb, eq-eqb, ne-eqb}
+use borrow.Author.Tests.{lt-leb, le-leb}
 use mathlib.Core.Path.{_≡_}
 use mathlib.Core.Bool.{and-true, and-false}
 use Prim.Native.Nat.{_+_, _≤_, _<_}

@@ -1,6 +1,6 @@
 -- `state_obeys` answers whether a state obeys section 1. Each return rewrites the test with what led there.
 -- Made by `places make` from answers/items/state_obeys.ans: edit that file, and not this one.
-use borrow.Author.Tests.{lt-leb, le-leb, eq-eqb, ne-eqb}
+use borrow.Author.Tests.{lt-leb, le-leb, ne-eqb}
 use mathlib.Core.Path.{_≡_}
 use mathlib.Core.Bool.{and-true, and-false}
 use Prim.Native.Nat.{_+_, _≤_, _<_}

@@ -1,7 +1,5 @@
 -- `layout_of` reads the counts and where the sections begin off a file whose sections are whole.
 -- Made by `places make` from answers/layout/layout_of.ans: edit that file, and not this one.
-use mathlib.Core.Path.{_≡_, refl, _∙_, sym}
-use Prim.Native.Nat.{_≤_, _+_}
 use Rattle.reading.proofs.Chain.{states-begin, rows-begin, outcomes-begin, counts-there, laid-out}
 use borrow.Author.Needs.{needs}
 use native.Mathlib.Omega.{arith}

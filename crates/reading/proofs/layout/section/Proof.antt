@@ -2,7 +2,7 @@
 -- Made by `places make` from answers/layout/section.ans: edit that file, and not this one.
 use native.Mathlib.Nat.{mul-le-mul}
 use borrow.Author.Tests.{lt-leb, le-leb}
-use Prim.Native.Nat.{_≤_, _<_, _+_, _*_}
+use Prim.Native.Nat.{_≤_, _<_}
 use lib.ListN.{length}
 use Rattle.model.specs.Bytes.{u16At}
 use Rattle.model.specs.Questions.{sectionQuestions}

@@ -1,11 +1,8 @@
 -- `sections` answers questions 1 to 3 in order: each return rewrites the chain with what the sections before it answered.
 -- Made by `places make` from answers/layout/sections.ans: edit that file, and not this one.
 use borrow.Author.Tests.{eq-eqb, ne-eqb}
-use mathlib.Core.Path.{_≡_, refl, _∙_, sym}
-use Prim.Native.Nat.{_≤_, _+_}
-use lib.ListN.{length}
+use mathlib.Core.Path.{refl, _∙_, sym}
 use Rattle.model.specs.Questions.{layoutQuestions, endQuestion}
-use Rattle.model.specs.Sections.{statesAt, rowsAt, outcomesAt, fileEnd}
 use Rattle.guarantee.specs.WellFormed.{section-there}
 use Rattle.reading.proofs.Chain.{section-passes, section-fails, states-begin, rows-begin, outcomes-begin, file-ends}
 use borrow.Author.Needs.{needs}

@@ -1,7 +1,7 @@
 -- `item_questions` answers questions 4 to 11 in order: each return hands over what the questions before it answered.
 -- Made by `places make` from answers/questions/item_questions.ans: edit that file, and not this one.
-use Prim.Native.Nat.{_≤_, _<_, _*_}
-use mathlib.Core.Path.{_≡_, _∙_, sym, ap}
+use Prim.Native.Nat.{_*_}
+use mathlib.Core.Path.{_∙_, sym, ap}
 use Rattle.model.specs.Answers.{verdictOf}
 use Rattle.reading.proofs.Asking.{no-pass, four-no, four-yes, start-below, penalty-fits, five-no, five-yes, six-no, six-yes}
 use Rattle.reading.proofs.Asking.{items-stop-4, items-stop-5, items-stop-6, items-stop-rows, items-values}

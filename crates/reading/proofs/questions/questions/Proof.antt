@@ -1,6 +1,6 @@
 -- `questions` answers questions 1 to 11: the sections' answer, or that of the questions about the items.
 -- Made by `places make` from answers/questions/questions.ans: edit that file, and not this one.
-use mathlib.Core.Path.{_≡_, _∙_, sym, ap}
+use mathlib.Core.Path.{_∙_, sym, ap}
 use Rattle.model.specs.Answers.{verdictOf}
 use Rattle.reading.proofs.Asking.{no-pass, file-stops, file-items}
 use borrow.Author.Needs.{needs}

@@ -1,6 +1,5 @@
 -- `row_questions` answers questions 7 to 9 in order and fills in the index: each return hands over what the loops found.
 -- Made by `places make` from answers/questions/row_questions.ans: edit that file, and not this one.
-use Prim.Native.Nat.{_≤_, _<_}
 use Rattle.reading.proofs.Asking.{seven-no, seven-yes, eight-no, eight-yes, rows-obey, nine-no, nine-yes, index-holds}
 use Rattle.reading.proofs.Asking.{rows-stop-7, rows-stop-8, rows-stop-9, rows-pass}
 use borrow.Author.Needs.{needs}

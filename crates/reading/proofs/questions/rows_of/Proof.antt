@@ -1,7 +1,7 @@
 -- `rows_of` answers a state's rows as a part of the file: the index gives its ends.
 -- Made by `places make` from answers/questions/rows_of.ans: edit that file, and not this one.
 use Prim.Native.Nat.{ℕ}
-use mathlib.Core.Path.{_≡_, refl, _∙_, sym, ap}
+use mathlib.Core.Path.{_∙_, sym, ap}
 use lib.ListN.{length-replicate}
 use Rattle.model.specs.Answers.{verdictOf}
 use Rattle.reading.proofs.Asking.{whole-file, states-are}

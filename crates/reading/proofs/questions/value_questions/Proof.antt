@@ -2,7 +2,6 @@
 -- Made by `places make` from answers/questions/value_questions.ans: edit that file, and not this one.
 use lib.ListN.{length-replicate}
 use Rattle.guarantee.specs.Tables.{fill-length}
-use Prim.Native.Nat.{_≤_, _<_}
 use Rattle.reading.proofs.Asking.{known, states-are, rows-are, ten-no, ten-yes, eleven-no, eleven-yes}
 use Rattle.reading.proofs.Asking.{values-stop-10, values-stop-11, values-pass}
 use Rattle.reading.proofs.Indexing.{parts-there, ready}
