@@ -19,8 +19,9 @@ use Rattle.model.specs.Value.{rowValue, entry}
 use Rattle.model.specs.Walk.{walk, leastCost}
 use Rattle.model.specs.Audit.{Audited, accepted, refused, open-state, pickValueOn, pickValue, unboundedState, strayState, slackState}
 use Rattle.model.specs.Audit.{tableQuestions, problemAudit, audit}
-use Rattle.guarantee.specs.Closeness.{Close, audit-close}
-use Rattle.guarantee.specs.Excess.{ExcessFits, audit-excess, undercut-own}
+use Rattle.model.specs.Promises.{Close, ExcessFits}
+use Rattle.guarantee.specs.Closeness.{audit-close}
+use Rattle.guarantee.specs.Excess.{audit-excess, undercut-own}
 use Rattle.guarantee.specs.Formed.{WellFormed}
 use Rattle.guarantee.specs.Searches.{each-yes, first-at, implied, or-cases, then-first}
 use Rattle.guarantee.specs.Values.{rowValue-bound}

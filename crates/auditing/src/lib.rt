@@ -16,8 +16,7 @@ ghost use Rattle.model.specs.Answers.{auditedOf};
 ghost use Rattle.model.specs.Audit.{accepted, refused as audit-refused, audit as model-audit};
 ghost use Rattle.model.specs.Sections.{problemOf};
 ghost use Rattle.model.specs.Value.{entry};
-ghost use Rattle.guarantee.specs.Closeness.{Close};
-ghost use Rattle.guarantee.specs.Excess.{ExcessFits};
+ghost use Rattle.model.specs.Promises.{Close, ExcessFits};
 
 // The audit of any bytes with any two tables. It changes neither. An accepted table is close, and the excess of a refusal has
 // the sign that its question says.

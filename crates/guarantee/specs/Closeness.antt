@@ -17,6 +17,7 @@ use Rattle.model.specs.Sections.{problemOf}
 use Rattle.model.specs.Walk.{In, here, there, next, Reached, at-start, along, pickCostOn, pickCost}
 use Rattle.model.specs.Audit.{accepted, pickValueOn, pickValue, tableQuestions, audit}
 use Rattle.model.specs.Cover.{Choice, picks-row, gives-up, picks-nothing, CoversAt, Cover, choiceOn, planOf}
+use Rattle.model.specs.Promises.{Close}
 use Rattle.guarantee.specs.Formed.{WellFormed}
 use Rattle.guarantee.specs.Rows.{own-low, own-high}
 use Rattle.guarantee.specs.Undercuts.{NoUndercut}
@@ -24,14 +25,6 @@ use Rattle.guarantee.specs.Values.{rowValue-low, rowValue-high}
 use Rattle.guarantee.specs.Walks.{own-row, reached-state, reached-marked, least-low, least-cheapest}
 use Rattle.guarantee.specs.Accepted.{Marked, Accepts, accepted-high, accepts, audit-formed, audit-yes}
 use Rattle.guarantee.specs.Arithmetic.{weightedSum-scale, sum-full, some-small, row-full, row-small, row-close, give-close}
-
--- Demand 3 of a table and its picks: no cover of any plan lies below V, and C × V covers the plan of the picks in (C - e)-ths. The set
--- of a cover is told by a Bool here, so that a contract can say it; `closeness-lower` holds of every set.
-pub record Close (p : Problem) (v picks : ℕ → ℕ) (C : ℕ) : Type 0 where
-  pub lower : (K : ℕ) → 1 ≤ K → (plan : ℕ → Choice) (u : ℕ → ℕ) (inside : ℕ → Bool) → Cover p K plan u (λ s. inside s ≡ true)
-      → K * v (p .start) ≤ u (p .start)
-  pub upper : Cover p (C - p .tolerance) (planOf p picks) (λ s. C * v s) (Reached p picks)
-  pub positive : 1 ≤ C - p .tolerance
 
 -- The lower half, of any table that is 0 at goals, at most 1000 × D and undercut by no row.
 module _ (p : Problem) (formed : WellFormed p) (v : ℕ → ℕ) (zeros : (s : ℕ) → s < p .states → p .goal s ≡ true → v s ≡ 0)

@@ -22,14 +22,9 @@ use Rattle.model.specs.Questions.{settingQuestions, itemQuestions, stateQuestio
 use Rattle.model.specs.Questions.{outcomeNumberQuestion, outcomeQuestion, estimateQuestion, undercutState, undercutRow}
 use Rattle.model.specs.Audit.{Audited, accepted, refused, orElse, open-state, pickValue, unboundedState, strayState, slackState}
 use Rattle.model.specs.Audit.{tableQuestions, problemAudit, auditOn, audit}
+use Rattle.model.specs.Promises.{ExcessFits}
 use Rattle.guarantee.specs.Searches.{first-at}
 use Rattle.guarantee.specs.WellFormed.{well-formed}
-
--- what is said of the excess z of a refusal under question q, with tolerance e
-pub record ExcessFits (e q : ℕ) (z : ℤ) : Type 0 where
-  pub undercut : q ≡ 17 → (k : ℕ) × (z ≡ pos (suc k))
-  pub slack : q ≡ 19 → (k : ℕ) × (e ≤ suc k) × (z ≡ negsuc k)
-  pub none : (q ≡ 17 → ⊥) → (q ≡ 19 → ⊥) → z ≡ pos 0
 
 -- an answer that carries such an excess where it refuses
 pub record Fitting (e : ℕ) (said : Audited) : Type 0 where

@@ -7,7 +7,7 @@ use mathlib.Core.List.{[], _∷_}
 use Rattle.model.specs.Bytes.{u16At, u32At}
 use borrow.Author.Tests.{le-leb}
 use Rattle.model.specs.Limits.{maxBudget}
-use Rattle.model.specs.Cases.{fileP, valuesP, picksP, lent, planned, cases-hold}
+use Rattle.model.specs.Cases.{fileP, valuesP, picksP, lent, planned, cases-hold, others-hold}
 use Rattle.model.specs.Problem.{Problem}
 use Rattle.model.specs.Search.{sumTo}
 use Rattle.model.specs.Value.{entry}
@@ -18,26 +18,27 @@ use Rattle.model.specs.Rounds.{Machine, fillTo, machineStart, walked, scanOf, b
 use Rattle.model.specs.Solution.{Tables, solved, refused, solveQuestions, solution}
 use Rattle.model.specs.Audit.{accepted, audit}
 use Rattle.model.specs.Cover.{Choice, Cover, planOf, allowance, allowanceTo, openTo}
+use Rattle.model.specs.Promises.{Close}
 use Rattle.guarantee.specs.Formed.{WellFormed}
 use Rattle.guarantee.specs.Searches.{yes-ask}
 use Rattle.guarantee.specs.WellFormed.{Laid, well-formed, laid}
-use Rattle.guarantee.specs.Closeness.{Close, audit-close}
+use Rattle.guarantee.specs.Closeness.{audit-close}
 use Rattle.guarantee.specs.Solutions.{solution-refused}
 use Rattle.guarantee.specs.Guarantee.{closeness-lower, ending, acceptance, Met, starts, walks, built-on-bellman}
 
 abbrev pub problemP : Problem
 problemP = problemOf fileP
 
--- of the list of cases: P passes questions 1 to 11; `plan` ends solved 3 5 100000; "P's answer passes the audit", with C 100,000
+-- of the lists of cases: P passes questions 1 to 11; `plan` ends solved 3 5 100000; "P's answer passes the audit", with C 100,000
 
 pub p-passes : fileQuestions fileP ≡ passes
-p-passes = cases-hold .1 .1 .1 .1 .1 .1 .1 .1 .1 .1 .0
+p-passes = others-hold .0
 
 pub p-solved : planned fileP 3 .answer ≡ solved 3 5 100000
-p-solved = cases-hold .1 .1 .1 .1 .1 .1 .1 .1 .1 .1 .1 .1 .1 .1 .1 .0
+p-solved = others-hold .1 .0
 
 pub p-accepted : audit fileP valuesP picksP ≡ accepted 100000
-p-accepted = cases-hold .1 .1 .1 .1 .1 .1 .1 .1 .1 .1 .1 .1 .1 .1 .1 .1 .1 .1 .1 .0
+p-accepted = cases-hold .1 .1 .1 .1 .1 .1 .1 .1 .1 .1 .1 .1 .1 .1 .1 .0
 
 pub p-formed : WellFormed problemP
 p-formed = well-formed fileP p-passes
@@ -102,4 +103,4 @@ p-bellman = built-on-bellman fileP 1000000 (lent 3) p-passes (p-lent 1000000 (om
 -- a refusal: "Empty file: 1, place 0"
 pub empty-refused : (budget : ℕ) (t : Tables) → solution [] budget t .answer ≡ refused 1 0
 empty-refused budget t =
-    ap (λ a. a .answer) (solution-refused [] budget t 1 0 (rw (cases-hold .1 .1 .1 .1 .1 .1 .1 .1 .1 .0)))
+    ap (λ a. a .answer) (solution-refused [] budget t 1 0 (rw (cases-hold .1 .1 .1 .1 .1 .1 .1 .1 .1 .1 .0)))

@@ -1,4 +1,6 @@
 -- "When an answer is an enum, a definition gives this paper's number and values for each of its cases."
+use lib.IntN.{pos}
+use Rattle.model.specs.Carried.{Said, Carried, ended, refusal}
 use Rattle.model.specs.Questions.{Verdict, passes, fails}
 use Rattle.model.specs.Solution.{Answer, solved, spent, refused}
 use Rattle.model.specs.Audit.{Audited, accepted, refused as audit-refused}
@@ -9,18 +11,48 @@ use Rattle.model.specs.declared.SolveAnswer.the-variants.{Solved, Spent,
 use Rattle.model.specs.declared.AuditAnswer.{AuditAnswer}
 use Rattle.model.specs.declared.AuditAnswer.the-variants.{Accepted, Refused as Audit-refused}
 
--- what an answer about a file says of questions 1 to 11
+-- what the code's answers carry, case by case: of questions 1 to 11,
+abbrev pub fileCarries : FileAnswer → Carried
+fileCarries Passed = ended Said.passed 0 0 0
+fileCarries (Refused q i) = refusal q i (pos 0)
+
+-- of solving a file: "C (0 if spent)",
+abbrev pub solveCarries : SolveAnswer → Carried
+solveCarries (Solved rounds evaluations least) = ended Said.solved rounds evaluations least
+solveCarries (Spent rounds evaluations) = ended Said.spent rounds evaluations 0
+solveCarries (Turned-down q i) = refusal q i (pos 0)
+
+-- and of the audit: "Accepted .. carries C. .. The audit's refusals carry an excess"
+abbrev pub auditCarries : AuditAnswer → Carried
+auditCarries (Accepted least) = ended Said.accepted 0 0 least
+auditCarries (Audit-refused q i excess) = refusal q i excess
+
+-- what the answers of the definitions carry
+
+abbrev pub verdictCarries : Verdict → Carried
+verdictCarries passes = ended Said.passed 0 0 0
+verdictCarries (fails q i) = refusal q i (pos 0)
+
+abbrev pub answerCarries : Answer → Carried
+answerCarries (solved rounds evaluations least) = ended Said.solved rounds evaluations least
+answerCarries (spent rounds evaluations) = ended Said.spent rounds evaluations 0
+answerCarries (refused q i) = refusal q i (pos 0)
+
+abbrev pub auditedCarries : Audited → Carried
+auditedCarries (accepted least) = ended Said.accepted 0 0 least
+auditedCarries (audit-refused q i excess) = refusal q i excess
+
+-- inside a crate a code's answer is read as that of the definitions: the case of the same name
+
 abbrev pub verdictOf : FileAnswer → Verdict
 verdictOf Passed = passes
 verdictOf (Refused q i) = fails q i
 
--- what an answer about solving a file says: how the run ended with its counts, or a question's number and place
 abbrev pub answerOf : SolveAnswer → Answer
 answerOf (Solved rounds evaluations least) = solved rounds evaluations least
 answerOf (Spent rounds evaluations) = spent rounds evaluations
 answerOf (Turned-down q i) = refused q i
 
--- what an answer of the audit says: the least cost of an accepted plan, or a question's number and place, and the excess
 abbrev pub auditedOf : AuditAnswer → Audited
 auditedOf (Accepted least) = accepted least
 auditedOf (Audit-refused q i excess) = audit-refused q i excess

@@ -7,12 +7,16 @@ pub mod Value
 pub mod Sections
 pub mod Questions
 pub mod Lookup
-pub mod Answers
 pub mod Walk
 pub mod Rounds
 pub mod Solution
 pub mod Audit
+pub mod Carried
+pub mod Answers
 pub mod Lines
 pub mod TableFiles
 pub mod Cover
+pub mod Buffers
+pub mod Interface
+pub mod Promises
 pub mod Cases

@@ -57,6 +57,10 @@ listEnd = 65535
 abbrev pub maxBudget : ℕ
 maxBudget = 2000000000000000
 
+-- "The program `plan` .. runs up to 1,000,000 rounds."
+abbrev pub planRounds : ℕ
+planRounds = 1000000
+
 -- "does the row value fit in 32 bits?"
 abbrev pub valueBound : ℕ
 valueBound = 4294967296

@@ -75,6 +75,9 @@ pub record Tables : Type 0 where
   pub remembered : List ℕ
   pub walk-list : List ℕ
 
+abbrev pub tables : List ℕ → List ℕ → List ℕ → List ℕ → Tables
+tables values picks remembered list = record { values = values; picks = picks; remembered = remembered; walk-list = list }
+
 -- "The result carries solved or spent, rounds done, evaluations and C (0 if spent). A refusal carries 0 for all three counts."
 pub data Answer : Type 0 where
   solved : (rounds evaluations least : ℕ) → Answer

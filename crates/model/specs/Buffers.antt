@@ -1,0 +1,26 @@
+-- What a lent buffer or table holds once something was put at its front, entries beyond it included.
+use mathlib.Core.Path.{_≡_}
+use Prim.Native.Nat.{ℕ, _+_, _*_, min}
+use mathlib.Core.List.{List, _++_}
+use lib.ListN.{length, take, drop}
+use Rattle.model.specs.Limits.{maxStates}
+
+-- "at the front .. as far as it fits", and the rest stays: 1, 2 put on 7, 8, 9 is 1, 2, 9
+abbrev pub copied : {A : Type 0} → List A → List A → List A
+copied from to = take (length to) from ++ drop (length from) to
+
+-- a text was put at the front of a buffer, and n entries of it fitted
+pub record Holds (before after : List ℕ) (n : ℕ) (text : List ℕ) : Type 0 where
+  pub after-is : after ≡ copied text before
+  pub size-is : n ≡ min (length text) (length before)
+
+-- room for the longest first line of `plan` and line of `audit`, and for the longest line of a state, whose number has at most 4 digits
+abbrev pub lineMost : ℕ
+lineMost = 73
+
+abbrev pub stateMost : ℕ
+stateMost = 22
+
+-- room for the text of every plan
+abbrev pub planRoom : ℕ
+planRoom = lineMost + stateMost * maxStates

@@ -1,0 +1,75 @@
+-- What the calls promise beyond the definitions' own answers: the clauses of the contracts of `solve`, `audit` and `plan`.
+use mathlib.Core.Path.{_≡_}
+use Prim.Native.Nat.{ℕ, suc, _+_, _-_, _*_, _≤_}
+use mathlib.Core.Bool.{Bool, true}
+use mathlib.Core.List.{List}
+use lib.IntN.{ℤ, pos, negsuc}
+use lib.ListN.{length, replicate, take}
+use Rattle.model.specs.Limits.{maxStates, maxRows, listEnd, planRounds}
+use Rattle.model.specs.Problem.{Problem}
+use Rattle.model.specs.Value.{entry}
+use Rattle.model.specs.Sections.{problemOf}
+use Rattle.model.specs.Questions.{passes, fileQuestions}
+use Rattle.model.specs.Walk.{Reached}
+use Rattle.model.specs.Solution.{Tables, Solution, solveQuestions, solution}
+use Rattle.model.specs.Audit.{accepted, audit}
+use Rattle.model.specs.Cover.{Choice, Cover, planOf, allowance, openTo}
+use Rattle.model.specs.Carried.{Said, Carried}
+use Rattle.model.specs.Answers.{answerCarries}
+use Rattle.model.specs.Lines.{planText, runStates}
+use Rattle.model.specs.Buffers.{Holds, planRoom}
+
+-- what a call of `solve` answers and the four tables as it leaves them are those of a solution
+pub record Leaves (carried : Carried) (t : Tables) (s : Solution) : Type 0 where
+  pub answer : carried ≡ answerCarries (s .answer)
+  pub left : t ≡ s .tables
+
+-- (A + 1) × (n + 1)
+abbrev pub roundsEnough : Problem → ℕ
+roundsEnough p = (allowance p + 1) * (openTo p (p .states) + 1)
+
+-- "Whatever the file and the lent tables hold, if questions 1 to 13 say yes, a run of the rounds of document 01 given at least
+-- (A + 1) × (n + 1) rounds ends solved", and within so many
+abbrev pub EndsSolved : List ℕ → ℕ → Tables → Carried → Type 0
+EndsSolved f budget t carried =
+    fileQuestions f ≡ passes → solveQuestions (problemOf f) budget t ≡ passes → roundsEnough (problemOf f) ≤ budget
+    → (carried .said ≡ Said.solved) × (carried .rounds ≤ roundsEnough (problemOf f))
+
+-- "Whenever a run of these rounds ends solved, at whatever budget, the audit accepts that file with the values and picks the run left,
+-- and gives the run's C."
+abbrev pub PassesAudit : List ℕ → Tables → Carried → Type 0
+PassesAudit f left carried = carried .said ≡ Said.solved → audit f (left .values) (left .picks) ≡ accepted (carried .least)
+
+-- "For every whole K of at least 1, every cover, in K-ths of a tick, of every plan for that file has at the start at least
+-- K × V(start). And C × V covers the accepted plan in (C − e)-ths." The set of the first half is told by a Bool here, since a contract
+-- cannot range over predicates; the theorem `closeness-lower` has it for any predicate.
+pub record Close (p : Problem) (v picks : ℕ → ℕ) (C : ℕ) : Type 0 where
+  pub lower : (K : ℕ) → 1 ≤ K → (plan : ℕ → Choice) (u : ℕ → ℕ) (inside : ℕ → Bool) → Cover p K plan u (λ s. inside s ≡ true)
+      → K * v (p .start) ≤ u (p .start)
+  pub upper : Cover p (C - p .tolerance) (planOf p picks) (λ s. C * v s) (Reached p picks)
+  pub positive : 1 ≤ C - p .tolerance
+
+-- "The audit's refusals carry an excess: V(s) minus row value, a signed number, at least 1 at question 17; V(s) minus the pick's value
+-- or 1000 × D at 19, at most −e; 0 elsewhere." `negsuc k` is −(k + 1)
+pub record ExcessFits (e q : ℕ) (z : ℤ) : Type 0 where
+  pub undercut : q ≡ 17 → (k : ℕ) × (z ≡ pos (suc k))
+  pub slack : q ≡ 19 → (k : ℕ) × (e ≤ suc k) × (z ≡ negsuc k)
+  pub none : (q ≡ 17 → ⊥) → (q ≡ 19 → ⊥) → z ≡ pos 0
+
+-- "The program `plan` .. runs up to 1,000,000 rounds": with lent values and picks, and tables of its own for what is remembered and for
+-- the walk list
+abbrev pub planSolution : List ℕ → List ℕ → List ℕ → Solution
+planSolution f values picks =
+    solution f planRounds
+    (record { values = values; picks = picks; remembered = replicate maxRows 0; walk-list = replicate maxStates listEnd })
+
+-- the text was put at the front of `out`, whole where there is room for every text; the tables are those of the solution; the number of
+-- states that is told is 0 after a refusal, and lies within both tables
+pub record Plans (f values picks out values′ picks′ out′ : List ℕ) (size states : ℕ) : Type 0 where
+  pub text : Holds out out′ size (planText (problemOf f .states) (planSolution f values picks))
+  pub whole : planRoom ≤ length out → take size out′ ≡ planText (problemOf f .states) (planSolution f values picks)
+  pub values-are : values′ ≡ planSolution f values picks .tables .values
+  pub picks-are : picks′ ≡ planSolution f values picks .tables .picks
+  pub states-are : states ≡ runStates (planSolution f values picks .answer) (problemOf f .states)
+  pub values-hold : states ≤ length values′
+  pub picks-hold : states ≤ length picks′
