@@ -17,14 +17,21 @@ pub struct Tally {
     pub case: String,
     met: [u64; QUESTIONS],
     named: Vec<(&'static str, u64)>,
+    least: Vec<(&'static str, u64)>,
     compared: u64,
     differences: u64,
 }
 
 impl Tally {
+    /// A tally that asks for at least so many of each of these.
+    pub fn asking(least: &[(&'static str, u64)]) -> Tally {
+        Tally { least: least.to_vec(), ..Tally::default() }
+    }
+
     /// Counts a refusal under a question.
     pub fn meet(&mut self, question: u64) {
         self.met[question as usize] += 1;
+        self.count("refused");
     }
 
     /// Counts an answer that is no refusal, or anything else worth a number.
@@ -55,11 +62,19 @@ impl Tally {
         false
     }
 
-    /// Prints the counts. Success where nothing differed and each question of the list was met at
-    /// least so often.
+    /// How often it was counted.
+    fn counted(&self, name: &str) -> u64 {
+        self.named.iter().find(|(known, _)| *known == name).map_or(0, |&(_, count)| count)
+    }
+
+    /// Prints the counts. Success where nothing differed, each question of the list was met at least
+    /// so often, and there are as many of everything as the tally asks for.
     pub fn close(&self, questions: std::ops::RangeInclusive<usize>, least: u64) -> ExitCode {
         for (name, count) in &self.named {
-            println!("{name}: {count}");
+            match self.least.iter().find(|(known, _)| known == name) {
+                Some((_, least)) => println!("{name}: {count} (at least {least})"),
+                None => println!("{name}: {count}"),
+            }
         }
         for (question, &count) in self.met.iter().enumerate().filter(|(_, &count)| count > 0) {
             println!("question {question}: {count}");
@@ -68,8 +83,13 @@ impl Tally {
         if !rare.is_empty() {
             println!("met fewer than {least} times: questions {rare:?}");
         }
+        let few = self.least.iter().filter(|(name, least)| self.counted(name) < *least);
+        let few: Vec<&str> = few.map(|(name, _)| *name).collect();
+        if !few.is_empty() {
+            println!("fewer than asked for: {}", few.join(", "));
+        }
         println!("{} comparisons, {} differences", self.compared, self.differences);
-        match self.differences == 0 && rare.is_empty() {
+        match self.differences == 0 && rare.is_empty() && few.is_empty() {
             true => ExitCode::SUCCESS,
             false => ExitCode::FAILURE,
         }
@@ -109,5 +129,25 @@ pub fn argument(place: usize, otherwise: u64) -> u64 {
     match std::env::args().nth(place) {
         Some(text) => text.parse().expect("a whole number"),
         None => otherwise,
+    }
+}
+
+#[cfg(test)]
+mod tests {
+    use super::*;
+
+    /// Whether a tally that asks for two of a thing closes well with some of it.
+    fn closes(solved: usize, differs: bool) -> bool {
+        let mut tally = Tally::asking(&[("solved", 2), ("refused", 1)]);
+        (0..solved).for_each(|_| tally.count("solved"));
+        tally.meet(4);
+        tally.hold("a number", &u8::from(differs), &0);
+        format!("{:?}", tally.close(4..=4, 1)) == format!("{:?}", ExitCode::SUCCESS)
+    }
+
+    #[test]
+    fn a_tally_asks_for_enough_and_no_difference() {
+        assert!(closes(2, false) && closes(3, false));
+        assert!(!closes(1, false) && !closes(0, false) && !closes(2, true));
     }
 }

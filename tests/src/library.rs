@@ -98,16 +98,17 @@ pub fn solve(file: &[u8], budget: u64, tables: Tables, answer: &mut [u64]) -> u8
     }
 }
 
-/// The product's audit.
+/// The product's audit. Its tables are lent so that they could be written, by which a comparison sees
+/// whether they were.
 #[inline]
-pub fn audit(file: &[u8], values: &[u32], picks: &[u16], answer: &mut [i64]) -> u8 {
+pub fn audit(file: &[u8], values: &mut [u32], picks: &mut [u16], answer: &mut [i64]) -> u8 {
     unsafe {
         cuulipso_audit(
             file.as_ptr(),
             file.len(),
-            values.as_ptr(),
+            values.as_mut_ptr(),
             values.len(),
-            picks.as_ptr(),
+            picks.as_mut_ptr(),
             picks.len(),
             answer.as_mut_ptr(),
             answer.len(),

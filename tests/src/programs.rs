@@ -4,7 +4,7 @@
 use std::ffi::OsStr;
 use std::io::Write;
 use std::path::{Path, PathBuf};
-use std::process::{Child, Command, Stdio};
+use std::process::{Child, Command, Output, Stdio};
 
 /// What a program wrote on standard output, and its messages on standard error.
 #[derive(Clone, Debug, Default, PartialEq, Eq)]
@@ -14,6 +14,12 @@ pub struct Said {
 }
 
 impl Said {
+    /// What stands in the outputs of a program that has ended.
+    fn of(output: &Output) -> Said {
+        let text = |bytes: &[u8]| String::from_utf8_lossy(bytes).into_owned();
+        Said { output: text(&output.stdout), messages: text(&output.stderr) }
+    }
+
     /// An output, and no message.
     pub fn only(output: impl Into<String>) -> Said {
         Said { output: output.into(), messages: String::new() }
@@ -45,12 +51,17 @@ impl Program {
 
 /// Runs a command with a standard input.
 pub fn run(command: &mut Command, input: &[u8]) -> Said {
+    Said::of(&run_to_end(command, input))
+}
+
+/// Runs a command with a standard input, and gives its bytes and its exit status.
+pub fn run_to_end(command: &mut Command, input: &[u8]) -> Output {
     let mut child = start(command.stdin(Stdio::piped()));
     let mut pipe = child.stdin.take().expect("a pipe");
     std::thread::scope(|scope| {
         // A program may end before it has read everything, so a write that fails is no matter.
         scope.spawn(move || drop(pipe.write_all(input)));
-        said(child)
+        child.wait_with_output().expect("output")
     })
 }
 
@@ -62,9 +73,7 @@ pub fn start(command: &mut Command) -> Child {
 
 /// What a started program says until its end.
 pub fn said(child: Child) -> Said {
-    let output = child.wait_with_output().expect("output");
-    let text = |bytes: &[u8]| String::from_utf8_lossy(bytes).into_owned();
-    Said { output: text(&output.stdout), messages: text(&output.stderr) }
+    Said::of(&child.wait_with_output().expect("output"))
 }
 
 /// A folder for the files of a run, removed at its end.

@@ -47,7 +47,10 @@ impl Answers {
                 Block::Gap => answers.alone(&mut comment),
                 Block::Item(line, text) => {
                     // the comment at the top is the file's, also where no empty line follows it
-                    if answers.head.is_empty() && answers.items.is_empty() && text.starts_with("use ") {
+                    if answers.head.is_empty()
+                        && answers.items.is_empty()
+                        && text.starts_with("use ")
+                    {
                         answers.head = std::mem::take(&mut comment).join("\n");
                     }
                     let comment = std::mem::take(&mut comment).join("\n");
@@ -71,7 +74,6 @@ impl Answers {
             self.items.push(Item { comment: String::new(), text, line: 0, kind: Kind::Other });
         }
     }
-
 }
 
 enum Block<'a> {
@@ -119,8 +121,20 @@ fn item_end(lines: &[&str], at: usize) -> usize {
 }
 
 const OTHER: [&str; 14] = [
-    "unfolding", "module", "data", "record", "mutual", "infix", "infixl", "infixr", "open", "ruleset", "axiom", "mod",
-    "package", "deriving",
+    "unfolding",
+    "module",
+    "data",
+    "record",
+    "mutual",
+    "infix",
+    "infixl",
+    "infixr",
+    "open",
+    "ruleset",
+    "axiom",
+    "mod",
+    "package",
+    "deriving",
 ];
 
 const MARKS: [&str; 3] = ["pub", "abbrev", "unfoldable"];
@@ -177,16 +191,20 @@ fn equation(head: &str, body: &str) -> Equation {
     let words = |t: &str| t.split_whitespace().map(str::to_string).collect::<Vec<_>>();
     let mut names = words(before);
     names.extend(words(after));
-    Equation { names, unfolding: words(unfolding), body: body.trim_matches([' ', '\t']).trim_end().to_string() }
+    Equation {
+        names,
+        unfolding: words(unfolding),
+        body: body.trim_matches([' ', '\t']).trim_end().to_string(),
+    }
 }
 
 /// Whether a name fits a pattern, in which `*` stands for any text.
 pub fn fits(pattern: &str, name: &str) -> bool {
     match pattern.split_once('*') {
         None => pattern == name,
-        Some((start, rest)) => name
-            .strip_prefix(start)
-            .is_some_and(|left| (0..=left.len()).any(|k| left.is_char_boundary(k) && fits(rest, &left[k..]))),
+        Some((start, rest)) => name.strip_prefix(start).is_some_and(|left| {
+            (0..=left.len()).any(|k| left.is_char_boundary(k) && fits(rest, &left[k..]))
+        }),
     }
 }
 
@@ -215,7 +233,11 @@ mod tests {
 
     #[test]
     fn a_star_stands_for_any_text() {
-        assert!(fits("same-*", "same-length-2") && fits("*-requires*", "scan-requires-2") && fits("a", "a"));
+        assert!(
+            fits("same-*", "same-length-2")
+                && fits("*-requires*", "scan-requires-2")
+                && fits("a", "a")
+        );
         assert!(!fits("same-*", "add-i") && !fits("a", "ab"));
     }
 }

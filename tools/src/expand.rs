@@ -1,4 +1,4 @@
-//! Replaces `@NAME` match path(name) {y the path that leads there from a need's place.
+//! Replaces `@NAME` by the path that leads there from a need's place.
 
 use crate::lts::Lts;
 use crate::text::{pieces, Piece};
@@ -16,15 +16,21 @@ impl Base<'_> {
     pub fn path(&self, name: &str) -> Option<String> {
         self.lts.way(&self.place).iter().find_map(|step| {
             let path = self.variable.clone() + &" .before".repeat(step.distance);
-            let thing = step.record.things().map(|f| &f.name).find(|f| *f == name || numbered(name, f));
-            if step.record.name == name { Some(path) } else { thing.map(|f| format!("{path} .{f}")) }
+            let thing =
+                step.record.things().map(|f| &f.name).find(|f| *f == name || numbered(name, f));
+            if step.record.name == name {
+                Some(path)
+            } else {
+                thing.map(|f| format!("{path} .{f}"))
+            }
         })
     }
 
     /// Every name that can stand after `@` here, nearest first.
     pub fn names(&self) -> Vec<String> {
         let way = self.lts.way(&self.place);
-        let mut names: Vec<String> = way.iter().flat_map(|s| s.record.things().map(|f| f.name.clone())).collect();
+        let mut names: Vec<String> =
+            way.iter().flat_map(|s| s.record.things().map(|f| f.name.clone())).collect();
         names.extend(way.iter().map(|s| s.record.name.clone()));
         names
     }
@@ -33,7 +39,8 @@ impl Base<'_> {
 /// Whether a name fits `STEM*`: the stem, or the stem with a number.
 fn numbered(pattern: &str, name: &str) -> bool {
     let stem = pattern.strip_suffix('*');
-    stem.and_then(|s| name.strip_prefix(s)).is_some_and(|rest| rest.chars().all(|c| c.is_ascii_digit()))
+    stem.and_then(|s| name.strip_prefix(s))
+        .is_some_and(|rest| rest.chars().all(|c| c.is_ascii_digit()))
 }
 
 /// The text with each `@NAME .FIELD ..` as a path, or the names that lead nowhere.
@@ -42,7 +49,11 @@ pub fn expand(text: &str, base: Option<&Base>) -> Result<String, Vec<String>> {
 }
 
 /// The same, with the path of each name, and what to say of a name that has none.
-pub fn expand_by(text: &str, path: &dyn Fn(&str) -> Option<String>, fault: &dyn Fn(&str) -> String) -> Result<String, Vec<String>> {
+pub fn expand_by(
+    text: &str,
+    path: &dyn Fn(&str) -> Option<String>,
+    fault: &dyn Fn(&str) -> String,
+) -> Result<String, Vec<String>> {
     let all = pieces(text);
     let (mut out, mut faults) = (String::new(), Vec::new());
     let mut at = 0;
@@ -50,7 +61,7 @@ pub fn expand_by(text: &str, path: &dyn Fn(&str) -> Option<String>, fault: &dyn 
         let name = match (all[at], all.get(at + 1)) {
             (Piece::Mark('@'), Some(Piece::Name(name))) => name,
             (piece, _) => {
-                push(&mut out, piece);
+                out += &piece.to_string();
                 at += 1;
                 continue;
             }
@@ -59,19 +70,20 @@ pub fn expand_by(text: &str, path: &dyn Fn(&str) -> Option<String>, fault: &dyn 
         match path(name) {
             Some(path) => {
                 let path = path + &projections(&all[at + 2..end]);
-                out += &if stands_alone(&all[..at]) || !path.contains(' ') { path } else { format!("({path})") };
+                out += &if stands_alone(&all[..at]) || !path.contains(' ') {
+                    path
+                } else {
+                    format!("({path})")
+                };
             }
             None => faults.push(fault(name)),
         }
         at = end;
     }
-    if faults.is_empty() { Ok(out) } else { Err(faults) }
-}
-
-fn push(out: &mut String, piece: Piece) {
-    match piece {
-        Piece::Name(s) | Piece::Space(s) | Piece::Closed(s) => out.push_str(s),
-        Piece::Mark(c) => out.push(c),
+    if faults.is_empty() {
+        Ok(out)
+    } else {
+        Err(faults)
     }
 }
 
@@ -121,7 +133,10 @@ fn fault(name: &str, base: Option<&Base>) -> String {
 pub fn near(name: &str, names: &[String]) -> Vec<String> {
     let allowed = 1 + name.chars().count() / 4;
     let stem = name.trim_end_matches(|c: char| c.is_ascii_digit() || c == '-');
-    let alike = |n: &&String| changes(name, n) <= allowed || (stem.len() > 2 && (n.contains(stem) || stem.contains(n.as_str())));
+    let alike = |n: &&String| {
+        changes(name, n) <= allowed
+            || (stem.len() > 2 && (n.contains(stem) || stem.contains(n.as_str())))
+    };
     names.iter().filter(alike).cloned().collect()
 }
 

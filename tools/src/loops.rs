@@ -31,7 +31,9 @@ pub fn arguments(lts: &Lts, name: &str, source: &[Loop]) -> Option<Vec<String>> 
         let turned = own.changed.iter().find(|(_, l)| l.is_some() && l == local);
         match (turned, local) {
             (Some((name, _)), _) => format!("{name}₀"),
-            (_, Some(local)) => names.get(local).map_or(format!("local-{local}"), |v| v.name.clone()),
+            (_, Some(local)) => {
+                names.get(local).map_or(format!("local-{local}"), |v| v.name.clone())
+            }
             _ => format!("argument-{k}"),
         }
     };
@@ -42,11 +44,18 @@ pub fn arguments(lts: &Lts, name: &str, source: &[Loop]) -> Option<Vec<String>> 
 fn head<'a>(lts: &'a Lts, name: &'a str, source: &'a [Loop]) -> Option<Head<'a>> {
     let own = lts.record(&format!("At-{name}·own"))?;
     let inv = own.fields.iter().find(|f| f.name == "inv")?;
-    let changed: Vec<&str> = own.fields.iter().map(|f| f.name.as_str()).filter(|n| *n != "inv").collect();
+    let changed: Vec<&str> =
+        own.fields.iter().map(|f| f.name.as_str()).filter(|n| *n != "inv").collect();
     let all = applied_to(&inv.ty);
-    let begins = all.get(..all.len().checked_sub(changed.len())?)?.iter().map(|a| local(a)).collect();
+    let begins =
+        all.get(..all.len().checked_sub(changed.len())?)?.iter().map(|a| local(a)).collect();
     let locals = changed_locals(lts, name, changed.len());
-    Some(Head { name, begins, changed: changed.into_iter().zip(locals).collect(), source: of_source(lts, name, source) })
+    Some(Head {
+        name,
+        begins,
+        changed: changed.into_iter().zip(locals).collect(),
+        source: of_source(lts, name, source),
+    })
 }
 
 /// The variable of each local that has one.
@@ -59,11 +68,14 @@ fn names(lts: &Lts, heads: &[Head]) -> BTreeMap<usize, Variable> {
             }
         }
     }
-    for (k, field) in lts.record("Args").map(|r| r.fields.iter().enumerate()).into_iter().flatten() {
+    for (k, field) in lts.record("Args").map(|r| r.fields.iter().enumerate()).into_iter().flatten()
+    {
         let copied = field.name == format!("t{}", k + 1);
         if !copied {
             let known = heads.iter().find(|h| h.source.is_some()).map(|h| variable(h, &field.name));
-            found.entry(k + 1).or_insert(known.unwrap_or(Variable { id: usize::MAX, name: field.name.clone() }));
+            found
+                .entry(k + 1)
+                .or_insert(known.unwrap_or(Variable { id: usize::MAX, name: field.name.clone() }));
         }
     }
     while heads.iter().any(|h| fill(h, &mut found)) {}
@@ -79,7 +91,8 @@ fn variable(head: &Head, name: &str) -> Variable {
 /// Names the locals of a loop that have no name yet. Says whether it could.
 fn fill(head: &Head, found: &mut BTreeMap<usize, Variable>) -> bool {
     let Some(source) = head.source else { return false };
-    let open: Vec<usize> = head.begins.iter().flatten().copied().filter(|l| !found.contains_key(l)).collect();
+    let open: Vec<usize> =
+        head.begins.iter().flatten().copied().filter(|l| !found.contains_key(l)).collect();
     let ids: Vec<usize> = found.values().map(|v| v.id).collect();
     let free = |v: &&Variable| !ids.contains(&v.id);
     let mut left: Vec<&Variable> = source.scope.iter().filter(free).collect();
@@ -99,7 +112,9 @@ fn of_source<'a>(lts: &Lts, name: &str, source: &'a [Loop]) -> Option<&'a Loop> 
     let labelled = source.iter().find(|l| l.label.as_deref() == Some(name));
     let is_label = |l: &&String| source.iter().any(|s| s.label.as_ref() == Some(l));
     let mut numbered: Vec<&String> = lts.loops.iter().filter(|l| !is_label(l)).collect();
-    numbered.sort_by_key(|l| l.trim_start_matches(|c: char| !c.is_ascii_digit()).parse::<usize>().unwrap_or(1));
+    numbered.sort_by_key(|l| {
+        l.trim_start_matches(|c: char| !c.is_ascii_digit()).parse::<usize>().unwrap_or(1)
+    });
     let plain: Vec<&Loop> = source.iter().filter(|l| l.label.is_none()).collect();
     let at = numbered.iter().position(|l| *l == name).filter(|_| numbered.len() == plain.len());
     labelled.or_else(|| at.map(|k| plain[k]))
@@ -109,7 +124,8 @@ fn of_source<'a>(lts: &Lts, name: &str, source: &'a [Loop]) -> Option<&'a Loop> 
 fn changed_locals(lts: &Lts, name: &str, count: usize) -> Vec<Option<usize>> {
     let again = lts.needs.iter().find(|n| n.name == format!("{name}-again"));
     let all = again.map(|n| applied_to(&n.ty)).unwrap_or_default();
-    let mut locals: Vec<Option<usize>> = all.iter().skip(all.len().saturating_sub(count)).map(|a| local(a)).collect();
+    let mut locals: Vec<Option<usize>> =
+        all.iter().skip(all.len().saturating_sub(count)).map(|a| local(a)).collect();
     locals.resize(count, None);
     locals
 }

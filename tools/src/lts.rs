@@ -110,7 +110,8 @@ fn one_line(text: &str) -> String {
 fn below<'a>(lines: &'a [&'a str], at: usize) -> &'a [&'a str] {
     let depth = indent(lines[at]);
     let rest = &lines[at + 1..];
-    let end = rest.iter().position(|l| l.trim().is_empty() || indent(l) <= depth).unwrap_or(rest.len());
+    let end =
+        rest.iter().position(|l| l.trim().is_empty() || indent(l) <= depth).unwrap_or(rest.len());
     &rest[..end]
 }
 

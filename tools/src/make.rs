@@ -20,14 +20,19 @@ pub struct Maker<'a> {
 pub fn make(unit: &Unit, file: &str, text: &str) -> Result<String, Vec<String>> {
     let mut maker = Maker { unit, file, answers: Answers::parse(text), faults: Vec::new() };
     let made = maker.all();
-    if maker.faults.is_empty() { Ok(made) } else { Err(maker.faults) }
+    if maker.faults.is_empty() {
+        Ok(made)
+    } else {
+        Err(maker.faults)
+    }
 }
 
 impl<'a> Maker<'a> {
     fn all(&mut self) -> String {
         let items = std::mem::take(&mut self.answers.items);
         let declared = declared(&items);
-        let (answers, copied): (Vec<Item>, Vec<Item>) = items.into_iter().partition(|i| self.is_answer(i, &declared));
+        let (answers, copied): (Vec<Item>, Vec<Item>) =
+            items.into_iter().partition(|i| self.is_answer(i, &declared));
         let body = [self.copied(&copied, &declared), self.answered(&answers)].concat().join("\n\n");
         let head = self.head(&copied, &body);
         format!("{head}\n\n{body}\n\n{}\n", self.spec())
@@ -70,7 +75,11 @@ impl<'a> Maker<'a> {
                 Kind::Signature(_) => base = self.base_of(&item.text),
                 Kind::Equation(e) if !is_clause(e, declared) => {
                     base = None;
-                    made = format!("abbrev {} : {}\n", e.names[0], self.made_type(e).unwrap_or_default());
+                    made = format!(
+                        "abbrev {} : {}\n",
+                        e.names[0],
+                        self.made_type(e).unwrap_or_default()
+                    );
                 }
                 _ => {}
             }
@@ -80,12 +89,18 @@ impl<'a> Maker<'a> {
             }
             let text = made + &self.declaration(item, declared, base.as_ref());
             append(&mut out, &item.comment, text, joins(item, declared));
-            if self.unit.is_cycle() && bounds.is_empty() && !out.iter().any(|t| t.contains("cycle.falls")) {
+            if self.unit.is_cycle()
+                && bounds.is_empty()
+                && !out.iter().any(|t| t.contains("cycle.falls"))
+            {
                 out.extend(self.bounds());
             }
         }
         if !missing.is_empty() {
-            self.fault(1, &format!("a line `NAME ARGUMENTS = ..` is missing for {}", missing.join(", ")));
+            self.fault(
+                1,
+                &format!("a line `NAME ARGUMENTS = ..` is missing for {}", missing.join(", ")),
+            );
         }
         out
     }
@@ -97,10 +112,19 @@ impl<'a> Maker<'a> {
                 let name = &e.names[0];
                 let gap = if e.body.starts_with('\n') { "" } else { " " };
                 match (self.unit.measured(name), self.unit.loop_arguments(name)) {
-                    (Some(member), _) => format!("{name} κs a ={gap}{}", self.measure(item, member, &e.body)),
-                    (_, Some(arguments)) => format!("{name} {} ={gap}{}", arguments.join(" "), self.expanded(item, &e.body, base)),
+                    (Some(member), _) => {
+                        format!("{name} κs a ={gap}{}", self.measure(item, member, &e.body))
+                    }
+                    (_, Some(arguments)) => format!(
+                        "{name} {} ={gap}{}",
+                        arguments.join(" "),
+                        self.expanded(item, &e.body, base)
+                    ),
                     _ => {
-                        self.fault(item.line, &format!("the arguments of {name} could not be found: write them"));
+                        self.fault(
+                            item.line,
+                            &format!("the arguments of {name} could not be found: write them"),
+                        );
                         String::new()
                     }
                 }
@@ -118,15 +142,26 @@ impl<'a> Maker<'a> {
         let name = &equation.names[0];
         let taken = self.unit.loop_arguments(name).filter(|a| a.len() != equation.names.len() - 1);
         if let Some(arguments) = taken {
-            self.fault(item.line, &format!("{name} takes {} arguments: {}", arguments.len(), arguments.join(" ")));
+            self.fault(
+                item.line,
+                &format!("{name} takes {} arguments: {}", arguments.len(), arguments.join(" ")),
+            );
         }
     }
 
     /// A measure of a member: `@x` is the parameter x.
     fn measure(&mut self, item: &Item, member: &Member, body: &str) -> String {
-        let names: Vec<String> = member.lts.record("Args").map(|r| r.fields.iter().map(|f| f.name.clone()).collect()).unwrap_or_default();
-        let path = |name: &str| names.iter().position(|n| n == name).map(|k| format!("a{} .0", " .1".repeat(k)));
-        match expand_by(body, &path, &|name| format!("no parameter `@{name}`; there are {}", names.join(" "))) {
+        let names: Vec<String> = member
+            .lts
+            .record("Args")
+            .map(|r| r.fields.iter().map(|f| f.name.clone()).collect())
+            .unwrap_or_default();
+        let path = |name: &str| {
+            names.iter().position(|n| n == name).map(|k| format!("a{} .0", " .1".repeat(k)))
+        };
+        match expand_by(body, &path, &|name| {
+            format!("no parameter `@{name}`; there are {}", names.join(" "))
+        }) {
             Ok(text) => text,
             Err(faults) => {
                 faults.iter().for_each(|f| self.fault(item.line, f));
@@ -151,11 +186,15 @@ impl<'a> Maker<'a> {
     fn place_at<'p>(&self, all: &[Piece<'p>]) -> Option<(&'a Member, &'p str, usize)> {
         let dot = Piece::Mark('.');
         match all {
-            [Piece::Name("place"), d, Piece::Name(m), e, Piece::Name(r), ..] if self.unit.is_cycle() && *d == dot && *e == dot => {
+            [Piece::Name("place"), d, Piece::Name(m), e, Piece::Name(r), ..]
+                if self.unit.is_cycle() && *d == dot && *e == dot =>
+            {
                 let member = self.unit.members.iter().find(|x| dashed(&x.name) == *m)?;
                 member.lts.record(r).map(|_| (member, *r, 5))
             }
-            [Piece::Name("place" | "tie"), d, Piece::Name(r), ..] if !self.unit.is_cycle() && *d == dot => {
+            [Piece::Name("place" | "tie"), d, Piece::Name(r), ..]
+                if !self.unit.is_cycle() && *d == dot =>
+            {
                 let member = self.unit.members.first()?;
                 member.lts.record(r).map(|_| (member, *r, 3))
             }
@@ -183,15 +222,20 @@ impl<'a> Maker<'a> {
             match self.place_at(&all[at..]) {
                 Some((member, record, length)) if all[at] == Piece::Name("place") => {
                     let applied = self.unit.applied(member, record);
-                    let apart = all[..at].iter().rev().find(|p| !p.is_blank()).is_some_and(|p| *p != Piece::Name(":"));
-                    out += &if apart && applied.contains(' ') { format!("({applied})") } else { applied };
+                    let apart = all[..at]
+                        .iter()
+                        .rev()
+                        .find(|p| !p.is_blank())
+                        .is_some_and(|p| *p != Piece::Name(":"));
+                    out += &if apart && applied.contains(' ') {
+                        format!("({applied})")
+                    } else {
+                        applied
+                    };
                     at += length;
                 }
                 _ => {
-                    match all[at] {
-                        Piece::Name(s) | Piece::Space(s) | Piece::Closed(s) => out.push_str(s),
-                        Piece::Mark(c) => out.push(c),
-                    }
+                    out += &all[at].to_string();
                     at += 1;
                 }
             }
@@ -226,8 +270,14 @@ impl<'a> Maker<'a> {
                     open.push(name);
                     continue;
                 };
-                let base = Base { variable: "c".to_string(), place: need.place.clone(), lts: &member.lts };
-                let text = self.answer(item, &name, &unit.applied(member, &format!("Need-{}", need.name)), &base);
+                let base =
+                    Base { variable: "c".to_string(), place: need.place.clone(), lts: &member.lts };
+                let text = self.answer(
+                    item,
+                    &name,
+                    &unit.applied(member, &format!("Need-{}", need.name)),
+                    &base,
+                );
                 // a comment stands above the first of the needs that share an answer
                 let comment = if told.contains(&item.line) { "" } else { item.comment.as_str() };
                 told.push(item.line);
@@ -246,7 +296,11 @@ impl<'a> Maker<'a> {
         let Kind::Equation(e) = &item.kind else { return String::new() };
         let t = if self.unit.is_cycle() { ("(t : nat.ℕ) → ", "t ") } else { ("", "") };
         let lifetimes = if is_requires(name) { " κs" } else { "" };
-        let unfolding = if e.unfolding.is_empty() { String::new() } else { format!("unfolding {}\n", e.unfolding.join(" ")) };
+        let unfolding = if e.unfolding.is_empty() {
+            String::new()
+        } else {
+            format!("unfolding {}\n", e.unfolding.join(" "))
+        };
         let gap = if e.body.starts_with('\n') { "" } else { " " };
         let body = self.expanded(item, &e.body, Some(base));
         format!("{name} : {}{ty}\n{unfolding}{name} {}c{lifetimes} ={gap}{body}", t.0, t.1)
@@ -272,10 +326,22 @@ impl<'a> Maker<'a> {
 
     fn no_need(&self, name: &str, needs: &[String]) -> String {
         let alike = near(name, needs);
-        let hint = if alike.is_empty() { String::new() } else { format!(" (is it {}?)", alike.join(" or ")) };
+        let hint = if alike.is_empty() {
+            String::new()
+        } else {
+            format!(" (is it {}?)", alike.join(" or "))
+        };
         let typed: Vec<String> = self.typed().into_iter().map(|(n, _)| n).collect();
-        let given = if typed.is_empty() { String::new() } else { format!("; it gives {}", typed.join(" ")) };
-        format!("`{name}` is no need of {}, and has no signature here{hint}; the needs are {}{given}", self.unit.path, needs.join(" "))
+        let given = if typed.is_empty() {
+            String::new()
+        } else {
+            format!("; it gives {}", typed.join(" "))
+        };
+        format!(
+            "`{name}` is no need of {}, and has no signature here{hint}; the needs are {}{given}",
+            self.unit.path,
+            needs.join(" ")
+        )
     }
 
     // ---- the frame
@@ -283,14 +349,28 @@ impl<'a> Maker<'a> {
     fn head(&self, copied: &[Item], body: &str) -> String {
         let mut lines: Vec<String> = Vec::new();
         if self.answers.head.is_empty() {
-            lines.push(format!("-- `{}::{}` meets its contract.", self.unit.crate_name, self.unit.path.replace('/', "::")));
+            lines.push(format!(
+                "-- `{}::{}` meets its contract.",
+                self.unit.crate_name,
+                self.unit.path.replace('/', "::")
+            ));
         } else {
             lines.push(self.answers.head.clone());
         }
-        lines.push(format!("{MADE}answers/{}.ans: edit that file, and not this one.", self.unit.path));
+        lines.push(format!(
+            "{MADE}answers/{}.ans: edit that file, and not this one.",
+            self.unit.path
+        ));
         let own: Vec<&Item> = copied.iter().filter(|i| i.kind == Kind::Use).collect();
-        lines.extend(own.iter().map(|i| if i.comment.is_empty() { i.text.clone() } else { format!("{}\n{}", i.comment, i.text) }));
-        for (module, name) in [("borrow.Author.Needs", "needs"), ("native.Mathlib.Omega", "arith")] {
+        lines.extend(own.iter().map(|i| {
+            if i.comment.is_empty() {
+                i.text.clone()
+            } else {
+                format!("{}\n{}", i.comment, i.text)
+            }
+        }));
+        for (module, name) in [("borrow.Author.Needs", "needs"), ("native.Mathlib.Omega", "arith")]
+        {
             if uses(body, name) && !own.iter().any(|i| uses(&i.text, name)) {
                 lines.push(format!("use {module}.{{{name}}}"));
             }
@@ -306,7 +386,8 @@ impl<'a> Maker<'a> {
 
     fn cycle_uses(&self) -> Vec<String> {
         let (unit, module) = (self.unit, self.unit.module());
-        let always = ["Prim.Native.Nat as nat", "borrow.Fn.Kinds as kinds", "borrow.Fn.PlainCycle as cycle"];
+        let always =
+            ["Prim.Native.Nat as nat", "borrow.Fn.Kinds as kinds", "borrow.Fn.PlainCycle as cycle"];
         let mut lines: Vec<String> = always.iter().map(|u| format!("use {u}")).collect();
         for member in &unit.members {
             let (own, d) = (unit.beside(&member.name), dashed(&member.name));
@@ -315,7 +396,11 @@ impl<'a> Maker<'a> {
             lines.push(format!("use {module}.Lts-{} as {d}-lts", member.name));
         }
         for path in unit.other_callees() {
-            lines.push(format!("use {}.Reads as {}", callee_module(&unit.crate_name, path), unit.callee_alias(path)));
+            lines.push(format!(
+                "use {}.Reads as {}",
+                callee_module(&unit.crate_name, path),
+                unit.callee_alias(path)
+            ));
         }
         lines.push(format!("use {module}.{{statement}}"));
         lines.push(format!("use {module}.Tie as tie"));
@@ -330,20 +415,33 @@ impl<'a> Maker<'a> {
             measures.chain(members).collect::<Vec<_>>().join("\n    ")
         } else {
             let spec = self.member_spec(&unit.members[0]);
-            if spec.contains(' ') { format!("({spec})") } else { spec }
+            if spec.contains(' ') {
+                format!("({spec})")
+            } else {
+                spec
+            }
         };
         let one = format!("{name} = tie.close {body}");
-        let text = if one.contains('\n') || one.chars().count() > 100 { format!("{name} =\n    tie.close\n    {body}") } else { one };
+        let text = if one.contains('\n') || one.chars().count() > 100 {
+            format!("{name} =\n    tie.close\n    {body}")
+        } else {
+            one
+        };
         format!("pub {name} : {{M : Type 1}} → statement M\n{text}")
     }
 
     fn member_spec(&self, member: &Member) -> String {
         let (unit, prefix) = (self.unit, self.unit.prefix(member));
         let mut words = vec![unit.applied(member, "spec")];
-        let answer = |n: &str| if unit.is_cycle() { format!("({prefix}{n} t)") } else { n.to_string() };
+        let answer =
+            |n: &str| if unit.is_cycle() { format!("({prefix}{n} t)") } else { n.to_string() };
         words.extend(member.lts.needs.iter().map(|n| answer(&n.name)));
         let one = words.join(" ");
-        if one.chars().count() > 80 { words.join("\n    ") } else { one }
+        if one.chars().count() > 80 {
+            words.join("\n    ")
+        } else {
+            one
+        }
     }
 }
 
@@ -360,15 +458,20 @@ fn is_clause(equation: &Equation, declared: &[String]) -> bool {
     let first = equation.names.first();
     let operators = declared.iter().filter(|d| d.contains('_') && !d.starts_with('«'));
     let parts: Vec<&str> = operators.flat_map(|d| d.split('_')).filter(|p| !p.is_empty()).collect();
-    first.is_some_and(|f| declared.contains(f)) || equation.names.iter().any(|n| parts.contains(&n.as_str()))
+    first.is_some_and(|f| declared.contains(f))
+        || equation.names.iter().any(|n| parts.contains(&n.as_str()))
 }
 
 /// The line that answers a need: its own, else the first pattern that fits, else the default.
 fn chosen<'a>(items: &'a [Item], need: &str) -> Option<&'a Item> {
     let with = |test: &dyn Fn(&str) -> bool| {
-        items.iter().find(|i| matches!(&i.kind, Kind::Equation(e) if e.names.iter().any(|n| test(n))))
+        items
+            .iter()
+            .find(|i| matches!(&i.kind, Kind::Equation(e) if e.names.iter().any(|n| test(n))))
     };
-    with(&|n| n == need).or_else(|| with(&|n| n.contains('*') && fits(n, need))).or_else(|| with(&|n| n == "default"))
+    with(&|n| n == need)
+        .or_else(|| with(&|n| n.contains('*') && fits(n, need)))
+        .or_else(|| with(&|n| n == "default"))
 }
 
 /// Whether a need asks what a callee requires, at each choice of the callee's lifetimes.

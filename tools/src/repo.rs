@@ -2,6 +2,7 @@
 
 use crate::lts::Lts;
 use crate::source::{self, Loop};
+use crate::sum::Sum;
 use crate::unit::{Member, Unit};
 use std::fs;
 use std::path::{Path, PathBuf};
@@ -21,7 +22,11 @@ impl Repo {
     pub fn find() -> Outcome<Repo> {
         let here = std::env::current_dir().map_err(|e| e.to_string())?;
         let root = here.ancestors().find(|d| d.join("crates.txt").is_file());
-        let root = root.ok_or("no crates.txt in this folder or above it")?.to_path_buf();
+        Repo::at(root.ok_or("no crates.txt in this folder or above it")?.to_path_buf())
+    }
+
+    /// The repository whose top is this folder.
+    pub fn at(root: PathBuf) -> Outcome<Repo> {
         let crates = crates(&read(&root.join("crates.txt"))?);
         Ok(Repo { root, crates })
     }
@@ -43,6 +48,24 @@ impl Repo {
         path.strip_prefix(&self.root).unwrap_or(path).display().to_string()
     }
 
+    /// The crates of these names, or all where none is named.
+    pub fn named(&self, names: &[&str]) -> Outcome<Vec<String>> {
+        for name in names {
+            self.listed(name)?;
+        }
+        let all = self.crates.iter().map(|(n, _)| n);
+        Ok(all.filter(|n| names.is_empty() || names.contains(&n.as_str())).cloned().collect())
+    }
+
+    fn listed(&self, name: &str) -> Outcome<()> {
+        let known = self.crates.iter().any(|(n, _)| n == name);
+        if known {
+            Ok(())
+        } else {
+            Err(format!("crates.txt lists no crate {name}"))
+        }
+    }
+
     pub fn with_answers(&self) -> Vec<String> {
         let names = self.crates.iter().map(|(n, _)| n);
         names.filter(|n| self.dir(n).join("answers").is_dir()).cloned().collect()
@@ -51,14 +74,18 @@ impl Repo {
     /// The functions and cycles that have an answers file.
     pub fn answered(&self, name: &str) -> Vec<String> {
         let folder = self.dir(name).join("answers");
-        let inside = |f: &PathBuf| Some(f.strip_prefix(&folder).ok()?.to_str()?.strip_suffix(".ans")?.to_string());
+        let inside = |f: &PathBuf| {
+            Some(f.strip_prefix(&folder).ok()?.to_str()?.strip_suffix(".ans")?.to_string())
+        };
         files(&folder).iter().filter_map(inside).collect()
     }
 
     /// The proof files of a crate, by the folder below `proofs/`.
     pub fn proofs(&self, name: &str) -> Vec<String> {
         let folder = self.dir(name).join("proofs");
-        let inside = |f: &PathBuf| Some(f.strip_prefix(&folder).ok()?.to_str()?.strip_suffix("/Proof.antt")?.to_string());
+        let inside = |f: &PathBuf| {
+            Some(f.strip_prefix(&folder).ok()?.to_str()?.strip_suffix("/Proof.antt")?.to_string())
+        };
         files(&folder).iter().filter_map(inside).collect()
     }
 
@@ -67,8 +94,16 @@ impl Repo {
         let mut found = vec![name.to_string()];
         let mut at = 0;
         while at < found.len() {
-            let deps = self.crates.iter().find(|(n, _)| *n == found[at]).map(|(_, d)| d.clone()).unwrap_or_default();
-            let new: Vec<String> = deps.into_iter().filter(|d| !found.contains(d) && self.crates.iter().any(|(n, _)| n == d)).collect();
+            let deps = self
+                .crates
+                .iter()
+                .find(|(n, _)| *n == found[at])
+                .map(|(_, d)| d.clone())
+                .unwrap_or_default();
+            let new: Vec<String> = deps
+                .into_iter()
+                .filter(|d| !found.contains(d) && self.crates.iter().any(|(n, _)| n == d))
+                .collect();
             found.extend(new);
             at += 1;
         }
@@ -76,10 +111,17 @@ impl Repo {
         found
     }
 
-    /// A sum of what the places are made from: the code of the crate and of the crates that it reaches.
+    /// A sum of what the places are made from: the code, and the kit.
     fn key(&self, name: &str) -> Outcome<String> {
         let mut sum = Sum::new();
         sum.add(&rt(&self.root, &["version"])?.stdout);
+        self.add_code(name, &mut sum)?;
+        Ok(sum.text())
+    }
+
+    /// Adds the code of the crate and of the crates that it reaches, as far as the places depend on it.
+    pub fn add_code(&self, name: &str, sum: &mut Sum) -> Outcome<()> {
+        self.listed(name)?;
         for c in self.reached(name) {
             sum.add(c.as_bytes());
             for file in files(&self.dir(&c).join("src")) {
@@ -87,16 +129,18 @@ impl Repo {
                 sum.add(source::code(&read(&file)?).as_bytes());
             }
         }
-        let deps = self.crates.iter().find(|(n, _)| n == name).map(|(_, d)| d.join(" ")).unwrap_or_default();
+        let deps = self
+            .crates
+            .iter()
+            .find(|(n, _)| n == name)
+            .map(|(_, d)| d.join(" "))
+            .unwrap_or_default();
         sum.add(deps.as_bytes());
-        Ok(sum.text())
+        Ok(())
     }
 
     /// The folder of the crate's generated places, made anew where the source has changed.
     pub fn places(&self, name: &str) -> Outcome<PathBuf> {
-        if !self.crates.iter().any(|(n, _)| n == name) {
-            return Err(format!("crates.txt lists no crate {name}"));
-        }
         let kept = self.root.join("target/places").join(name);
         let key = self.key(name)?;
         if fs::read_to_string(kept.join("key")).is_ok_and(|k| k == key) {
@@ -109,13 +153,18 @@ impl Repo {
 
     fn generate(&self, name: &str, kept: &Path) -> Outcome<()> {
         let began = Instant::now();
-        eprintln!("places: {name}: the source is new or changed; running rt dev {name} --generated");
+        eprintln!(
+            "places: {name}: the source is new or changed; running rt dev {name} --generated"
+        );
         let temp = Temp::new(&self.root.join("target/places"), "new")?;
         let output = rt(&self.root, &["dev", name, "--generated", &temp.0.display().to_string()])?;
         let from = temp.0.join(format!("Rattle.{name}.proofs/proofs"));
         let found: Vec<PathBuf> = files(&from).into_iter().filter(|f| is_lts(f)).collect();
         if found.is_empty() {
-            return Err(format!("rt dev {name} --generated wrote no places. It said:\n{}", why(&output)));
+            return Err(format!(
+                "rt dev {name} --generated wrote no places. It said:\n{}",
+                why(&output)
+            ));
         }
         let _ = fs::remove_dir_all(kept);
         for file in found {
@@ -131,7 +180,10 @@ impl Repo {
         let folder = self.places(name)?.join(path);
         let last = path.rsplit('/').next().unwrap_or(path);
         let parts: Vec<(String, PathBuf)> = if last.starts_with('+') {
-            last.split('+').skip(1).map(|m| (m.to_string(), folder.join(format!("Lts-{m}.antt")))).collect()
+            last.split('+')
+                .skip(1)
+                .map(|m| (m.to_string(), folder.join(format!("Lts-{m}.antt"))))
+                .collect()
         } else {
             vec![(last.to_string(), folder.join("Lts.antt"))]
         };
@@ -151,8 +203,14 @@ impl Repo {
             .filter_map(|f| read(&f).ok().and_then(|t| source::loops(&t, function)).map(|l| (f, l)))
             .collect();
         let stem = |f: &Path| f.file_stem().and_then(|s| s.to_str()).unwrap_or("").to_string();
-        let own = path.split('/').rev().skip(1).find_map(|part| found.iter().find(|(f, _)| stem(f) == part));
-        let root = found.iter().find(|(f, _)| !path.contains('/') && ["lib", "main"].contains(&stem(f).as_str()));
+        let own = path
+            .split('/')
+            .rev()
+            .skip(1)
+            .find_map(|part| found.iter().find(|(f, _)| stem(f) == part));
+        let root = found
+            .iter()
+            .find(|(f, _)| !path.contains('/') && ["lib", "main"].contains(&stem(f).as_str()));
         let only = if found.len() == 1 { found.first() } else { None };
         own.or(root).or(only).map(|(_, l)| l.clone()).unwrap_or_default()
     }
@@ -187,13 +245,17 @@ fn is_lts(file: &Path) -> bool {
 fn crates(text: &str) -> Vec<(String, Vec<String>)> {
     let lines = text.lines().map(|l| l.split('#').next().unwrap_or(""));
     let parts = lines.filter_map(|l| l.split_once(':'));
-    parts.map(|(n, d)| (n.trim().to_string(), d.split_whitespace().map(str::to_string).collect())).collect()
+    parts
+        .map(|(n, d)| (n.trim().to_string(), d.split_whitespace().map(str::to_string).collect()))
+        .collect()
 }
 
 /// Every file below a folder, in order.
 pub fn files(folder: &Path) -> Vec<PathBuf> {
     let mut found = Vec::new();
-    let entries = fs::read_dir(folder).map(|r| r.flatten().map(|e| e.path()).collect::<Vec<_>>()).unwrap_or_default();
+    let entries = fs::read_dir(folder)
+        .map(|r| r.flatten().map(|e| e.path()).collect::<Vec<_>>())
+        .unwrap_or_default();
     for path in entries {
         if path.is_dir() {
             found.extend(files(&path));
@@ -279,22 +341,11 @@ impl Drop for Temp {
     }
 }
 
-/// A sum of texts (FNV-1a, twice with other starts), to tell whether files have changed.
-struct Sum(u64, u64);
-
-impl Sum {
-    fn new() -> Sum {
-        Sum(0xcbf2_9ce4_8422_2325, 0x6c62_272e_07bb_0142)
-    }
-
-    fn add(&mut self, bytes: &[u8]) {
-        for b in bytes.len().to_le_bytes().iter().chain(bytes) {
-            self.0 = (self.0 ^ u64::from(*b)).wrapping_mul(0x0000_0100_0000_01b3);
-            self.1 = (self.1 ^ u64::from(*b)).wrapping_mul(0x0000_0100_0000_01b3).rotate_left(5);
-        }
-    }
-
-    fn text(&self) -> String {
-        format!("{:016x}{:016x}", self.0, self.1)
+/// Success, or all that is wrong.
+pub fn ended(faults: &[String]) -> Outcome<()> {
+    if faults.is_empty() {
+        Ok(())
+    } else {
+        Err(faults.join("\n"))
     }
 }

@@ -27,7 +27,9 @@ pub struct Loop {
 /// The loops of the function `name`, if the text has just one function of that name.
 pub fn loops(text: &str, name: &str) -> Option<Vec<Loop>> {
     let tokens = tokens(text);
-    let heads: Vec<usize> = (0..tokens.len()).filter(|&k| tokens[k] == "fn" && tokens.get(k + 1).is_some_and(|t| t == name)).collect();
+    let heads: Vec<usize> = (0..tokens.len())
+        .filter(|&k| tokens[k] == "fn" && tokens.get(k + 1).is_some_and(|t| t == name))
+        .collect();
     let [head] = heads[..] else { return None };
     let open = head + 2;
     let close = matching(&tokens, open)?;
@@ -47,7 +49,9 @@ fn tokens(text: &str) -> Vec<String> {
         if two == "//" {
             at += chars[at..].iter().position(|&d| d == '\n').unwrap_or(chars.len() - at);
         } else if two == "/*" {
-            at = (at..chars.len()).find(|&k| chars[k] == '*' && chars.get(k + 1) == Some(&'/')).map_or(chars.len(), |k| k + 2);
+            at = (at..chars.len())
+                .find(|&k| chars[k] == '*' && chars.get(k + 1) == Some(&'/'))
+                .map_or(chars.len(), |k| k + 2);
         } else if c == '"' {
             let end = quoted_end(&chars, at);
             found.push(chars[at..end].iter().collect());
@@ -55,7 +59,9 @@ fn tokens(text: &str) -> Vec<String> {
         } else if c == '\'' {
             at = label_or_letter(&chars, at, &mut found);
         } else if c.is_alphanumeric() || c == '_' {
-            let end = (at..chars.len()).find(|&k| !(chars[k].is_alphanumeric() || chars[k] == '_')).unwrap_or(chars.len());
+            let end = (at..chars.len())
+                .find(|&k| !(chars[k].is_alphanumeric() || chars[k] == '_'))
+                .unwrap_or(chars.len());
             found.push(chars[at..end].iter().collect());
             at = end;
         } else if two == "=>" || two == "::" || two == ".." {
@@ -90,7 +96,9 @@ fn label_or_letter(chars: &[char], at: usize, found: &mut Vec<String>) -> usize 
         found.push(format!("\"{}\"", chars[at + 1]));
         return at + 3;
     }
-    let end = (at + 1..chars.len()).find(|&k| !(chars[k].is_alphanumeric() || chars[k] == '_')).unwrap_or(chars.len());
+    let end = (at + 1..chars.len())
+        .find(|&k| !(chars[k].is_alphanumeric() || chars[k] == '_'))
+        .unwrap_or(chars.len());
     found.push(chars[at..end].iter().collect());
     end
 }
@@ -209,25 +217,45 @@ fn walk(tokens: &[String], parameters: Vec<String>) -> Vec<Loop> {
                 pending.retain(|(depth, _)| *depth <= scopes.len());
             }
             ";" => {
-                let ready = pending.iter().position(|(depth, _)| *depth == scopes.len()).unwrap_or(pending.len());
+                let ready = pending
+                    .iter()
+                    .position(|(depth, _)| *depth == scopes.len())
+                    .unwrap_or(pending.len());
                 let names = pending.split_off(ready).into_iter().flat_map(|(_, n)| n);
                 if let Some(scope) = scopes.last_mut() {
                     scope.extend(names);
                 }
             }
             "let" => {
-                let end = (at..tokens.len()).find(|&k| tokens[k] == "=" || tokens[k] == ";").unwrap_or(tokens.len());
+                let end = (at..tokens.len())
+                    .find(|&k| tokens[k] == "=" || tokens[k] == ";")
+                    .unwrap_or(tokens.len());
                 let names = namer.all(pattern_names(&tokens[at + 1..end], true));
                 let tested = at > 0 && (tokens[at - 1] == "if" || tokens[at - 1] == "while");
-                if tested { next_block = names } else { pending.push((scopes.len(), names)) }
+                if tested {
+                    next_block = names
+                } else {
+                    pending.push((scopes.len(), names))
+                }
             }
             "=>" if tokens.get(at + 1).is_some_and(|t| t == "{") => {
-                let start = (0..at).rev().find(|&k| ["{", ",", "}"].contains(&tokens[k].as_str())).map_or(0, |k| k + 1);
+                let start = (0..at)
+                    .rev()
+                    .find(|&k| ["{", ",", "}"].contains(&tokens[k].as_str()))
+                    .map_or(0, |k| k + 1);
                 next_block = namer.all(pattern_names(&tokens[start..at], false));
             }
             "while" | "loop" | "for" => {
-                let own = if tokens[at] == "for" { namer.range(range_variable(&tokens[at + 1..])) } else { Vec::new() };
-                found.push(Loop { label: label(tokens, at), scope: scopes.concat(), own: own.clone() });
+                let own = if tokens[at] == "for" {
+                    namer.range(range_variable(&tokens[at + 1..]))
+                } else {
+                    Vec::new()
+                };
+                found.push(Loop {
+                    label: label(tokens, at),
+                    scope: scopes.concat(),
+                    own: own.clone(),
+                });
                 next_block = own.into_iter().take(1).collect();
             }
             _ => {}
@@ -244,7 +272,6 @@ fn label(tokens: &[String], at: usize) -> Option<String> {
 fn range_variable(tokens: &[String]) -> &str {
     tokens.iter().map(String::as_str).find(|t| *t != "mut").unwrap_or("_")
 }
-
 
 #[cfg(test)]
 mod tests {

@@ -19,7 +19,8 @@ fn unit() -> Unit {
 
 fn expanded(text: &str, place: &str) -> Result<String, Vec<String>> {
     let unit = unit();
-    let base = Base { variable: "c".to_string(), place: place.to_string(), lts: &unit.members[0].lts };
+    let base =
+        Base { variable: "c".to_string(), place: place.to_string(), lts: &unit.members[0].lts };
     expand(text, Some(&base))
 }
 
@@ -27,7 +28,8 @@ fn expanded(text: &str, place: &str) -> Result<String, Vec<String>> {
 fn the_generated_text_is_read() {
     let unit = unit();
     let lts = &unit.members[0].lts;
-    let needs: Vec<(&str, &str)> = lts.needs.iter().map(|n| (n.name.as_str(), n.place.as_str())).collect();
+    let needs: Vec<(&str, &str)> =
+        lts.needs.iter().map(|n| (n.name.as_str(), n.place.as_str())).collect();
     let known = "After-shared-slice-known2";
     assert_eq!(needs, [("bump-requires", "Start"), ("add-n", known), ("loop-again", known)]);
     assert_eq!(lts.loops, ["loop"]);
@@ -42,10 +44,19 @@ fn a_name_becomes_the_path_to_it() {
     let at = "After-shared-slice-known2";
     let cases = [
         ("f @loop .i", "f (c .before .before .loop .i)"),
-        ("(@loop .inv .0, @Start .pre)", "(c .before .before .loop .inv .0, c .before .before .before .before .pre)"),
+        (
+            "(@loop .inv .0, @Start .pre)",
+            "(c .before .before .loop .inv .0, c .before .before .before .before .pre)",
+        ),
         ("g @In-loop @After-shared-slice-known2", "g (c .before) c"),
-        ("@shared-slice-known* .given (@args .a)", "c .shared-slice-known2 .given (c .before .before .before .before .args .a)"),
-        ("λ w. @loop-test.taken -- @not-looked-at", "λ w. c .before .loop-test .taken -- @not-looked-at"),
+        (
+            "@shared-slice-known* .given (@args .a)",
+            "c .shared-slice-known2 .given (c .before .before .before .before .args .a)",
+        ),
+        (
+            "λ w. @loop-test.taken -- @not-looked-at",
+            "λ w. c .before .loop-test .taken -- @not-looked-at",
+        ),
     ];
     for (text, path) in cases {
         assert_eq!(expanded(text, at).unwrap(), path);
@@ -63,8 +74,14 @@ fn a_name_that_leads_nowhere_is_an_error() {
 fn an_invariants_arguments_have_names() {
     let unit = unit();
     let member = &unit.members[0];
-    assert_eq!(loops::arguments(&member.lts, "loop", &member.source).unwrap().join(" "), "a b z n₀ i₀ n i");
-    assert_eq!(loops::arguments(&member.lts, "loop", &[]).unwrap().join(" "), "a b local-3 n₀ i₀ n i");
+    assert_eq!(
+        loops::arguments(&member.lts, "loop", &member.source).unwrap().join(" "),
+        "a b z n₀ i₀ n i"
+    );
+    assert_eq!(
+        loops::arguments(&member.lts, "loop", &[]).unwrap().join(" "),
+        "a b local-3 n₀ i₀ n i"
+    );
 }
 
 const ANSWERS: &str = "-- What is shown.\nuse lib.ListN.{length}\n\nInv-loop = n ≤ i\n\nμ-loop a b z n₀ i₀ n i = length a - i\n\n\
@@ -114,17 +131,25 @@ fn a_proof_file_is_made() {
 fn faults_name_their_line() {
     let of = |text: &str| make(&unit(), "count.ans", text).unwrap_err().join("\n");
     let gone = of("Inv-loop = a\n\nμ-loop = b\n\ndefault = ?\nadd-m = omega arith\n");
-    assert!(gone.starts_with("count.ans:6: `add-m` is no need of count, and has no signature here (is it add-n?)"), "{gone}");
+    assert!(
+        gone.starts_with(
+            "count.ans:6: `add-m` is no need of count, and has no signature here (is it add-n?)"
+        ),
+        "{gone}"
+    );
     assert!(of("Inv-loop = a\n\ndefault = ?\n").contains("missing for μ-loop"));
-    assert!(of("Inv-loop = a\n\nμ-loop = b\n\nadd-n = ?\n").contains("no answer for bump-requires, loop-again"));
-    assert!(of("Inv-loop = a\n\nμ-loop = b\n\ndefault = ?\nadd-n = @nowhere\n").starts_with("count.ans:6: no `@nowhere`"));
+    assert!(of("Inv-loop = a\n\nμ-loop = b\n\nadd-n = ?\n")
+        .contains("no answer for bump-requires, loop-again"));
+    assert!(of("Inv-loop = a\n\nμ-loop = b\n\ndefault = ?\nadd-n = @nowhere\n")
+        .starts_with("count.ans:6: no `@nowhere`"));
 }
 
 #[test]
 fn a_cycle_gets_its_frame() {
     let mut unit = unit();
     unit.path = "inner/+count".to_string();
-    unit.members[0].lts.callees = vec!["tries::inner::count".to_string(), "other::inner::scan_all".to_string()];
+    unit.members[0].lts.callees =
+        vec!["tries::inner::count".to_string(), "other::inner::scan_all".to_string()];
     let text = "μ-count = @b\n\ncount-Inv-loop = a\n\ncount-μ-loop = b\n\ndefault = ?\n";
     let made = make(&unit, "+count.ans", text).unwrap();
     for line in [

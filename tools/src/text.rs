@@ -1,5 +1,7 @@
 //! antt's text, as far as the tool looks into it: names, comments and quoted texts.
 
+use std::fmt::{self, Write};
+
 /// Whether a character can stand in a name of antt's.
 pub fn in_name(c: char) -> bool {
     !c.is_whitespace() && !"(){}.;,@\"«»".contains(c)
@@ -18,6 +20,15 @@ pub enum Piece<'a> {
 impl<'a> Piece<'a> {
     pub fn is_blank(&self) -> bool {
         matches!(self, Piece::Space(_))
+    }
+}
+
+impl fmt::Display for Piece<'_> {
+    fn fmt(&self, out: &mut fmt::Formatter) -> fmt::Result {
+        match self {
+            Piece::Name(s) | Piece::Space(s) | Piece::Closed(s) => out.write_str(s),
+            Piece::Mark(c) => out.write_char(*c),
+        }
     }
 }
 
@@ -83,13 +94,18 @@ pub fn dashed(name: &str) -> String {
 }
 
 const RESERVED: [&str; 24] = [
-    "data", "record", "deriving", "module", "where", "use", "mod", "pub", "package", "using", "open", "as",
-    "abbrev", "axiom", "unfold", "ruleset", "mutual", "infix", "elim", "let", "in", "do", "com", "V",
+    "data", "record", "deriving", "module", "where", "use", "mod", "pub", "package", "using",
+    "open", "as", "abbrev", "axiom", "unfold", "ruleset", "mutual", "infix", "elim", "let", "in",
+    "do", "com", "V",
 ];
 
 /// A name as it is written where it may be a word that antt reserves.
 pub fn escaped(name: &str) -> String {
-    if RESERVED.contains(&name) { format!("«{name}»") } else { name.to_string() }
+    if RESERVED.contains(&name) {
+        format!("«{name}»")
+    } else {
+        name.to_string()
+    }
 }
 
 #[cfg(test)]
@@ -99,13 +115,7 @@ mod tests {
     #[test]
     fn pieces_join_to_the_text() {
         let text = "f @loop .i -- a (comment\n  \"a \\\" b\" «in» {- c -} (x, y)";
-        let joined: String = pieces(text)
-            .iter()
-            .map(|p| match p {
-                Piece::Name(s) | Piece::Space(s) | Piece::Closed(s) => s.to_string(),
-                Piece::Mark(c) => c.to_string(),
-            })
-            .collect();
+        let joined: String = pieces(text).iter().map(Piece::to_string).collect();
         assert_eq!(joined, text);
         assert!(uses(text, "loop") && !uses(text, "comment") && !uses(text, "b"));
     }

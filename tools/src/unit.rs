@@ -46,12 +46,20 @@ impl Unit {
 
     /// What the names of a member's answers begin with.
     pub fn prefix(&self, member: &Member) -> String {
-        if self.is_cycle() { dashed(&member.name) + "-" } else { String::new() }
+        if self.is_cycle() {
+            dashed(&member.name) + "-"
+        } else {
+            String::new()
+        }
     }
 
     /// The module whose `Need-..` and places the proof file names.
     pub fn alias(&self, member: &Member) -> String {
-        if self.is_cycle() { dashed(&member.name) + "-lts" } else { "tie".to_string() }
+        if self.is_cycle() {
+            dashed(&member.name) + "-lts"
+        } else {
+            "tie".to_string()
+        }
     }
 
     /// The names of the answers, in the order of the needs.
@@ -67,7 +75,10 @@ impl Unit {
     pub fn invariants(&self, member: &Member) -> Vec<(String, String)> {
         let (prefix, alias) = (self.prefix(member), self.alias(member));
         let of = |l: &String| {
-            [(format!("{prefix}Inv-{l}"), format!("{alias}.InvT-{l}")), (format!("{prefix}μ-{l}"), format!("{alias}.MeasureT-{l}"))]
+            [
+                (format!("{prefix}Inv-{l}"), format!("{alias}.InvT-{l}")),
+                (format!("{prefix}μ-{l}"), format!("{alias}.MeasureT-{l}")),
+            ]
         };
         member.lts.loops.iter().flat_map(of).collect()
     }
@@ -88,7 +99,11 @@ impl Unit {
             let d = dashed(&m.name);
             (format!("μ-{d}"), format!("cycle.Measures {} {d}-kinds.ps nat.ℕ", m.lts.lifetimes))
         };
-        if self.is_cycle() { self.members.iter().map(of).collect() } else { Vec::new() }
+        if self.is_cycle() {
+            self.members.iter().map(of).collect()
+        } else {
+            Vec::new()
+        }
     }
 
     /// The member whose measure has that name.
@@ -152,7 +167,8 @@ impl Unit {
         let last = |p: &str| p.rsplit("::").next().unwrap_or(p).to_string();
         let own = last(path);
         let others = self.other_callees();
-        let taken = others.iter().any(|p| *p != path && last(p) == own) || self.members.iter().any(|m| m.name == own);
+        let taken = others.iter().any(|p| *p != path && last(p) == own)
+            || self.members.iter().any(|m| m.name == own);
         dashed(&if taken { path.replace("::", "-") } else { own }) + "-reads"
     }
 }
@@ -164,7 +180,9 @@ fn own_modules(crate_name: &str) -> String {
 /// The module of a function that is called, from the crate `crate_name`.
 pub fn callee_module(crate_name: &str, path: &str) -> String {
     match path.split_once("::") {
-        Some((name, rest)) if name == crate_name => own_modules(crate_name) + &rest.replace("::", "."),
+        Some((name, rest)) if name == crate_name => {
+            own_modules(crate_name) + &rest.replace("::", ".")
+        }
         Some((name, rest)) => format!("Rattle.{name}.proofs.{}", rest.replace("::", ".")),
         None => path.to_string(),
     }

@@ -1,16 +1,17 @@
 // The program `audit`: audits a problem file with a values file and a picks file, and prints the answer.
 use libc::STDERR_FILENO;
 use libc::STDOUT_FILENO;
+use model::LINE_MOST;
 use model::MAX_STATES;
-use printing::files::fail;
-use printing::files::read_named;
+use printing::table_files::PICK_BYTES;
+use printing::table_files::VALUE_BYTES;
+use programs::files::fail;
+use programs::files::read_named;
 
-// Room for the bytes of two tables, 4 and 2 for each state, and for a line of at most 73 bytes.
-const VALUES: usize = 4 * MAX_STATES;
+// Room for the bytes of two tables of as many states as a file can have.
+const VALUES: usize = VALUE_BYTES * MAX_STATES;
 
-const PICKS: usize = 2 * MAX_STATES;
-
-const LINE: usize = 128;
+const PICKS: usize = PICK_BYTES * MAX_STATES;
 
 // A longer file gets the same answer as its first 65,536 bytes, and a longer table the same as its entries of states.
 fn audit_named() {
@@ -32,8 +33,8 @@ fn audit_named() {
     let i = a.length;
     let j = b.length;
     let k = c.length;
-    let mut out = [0u8; LINE];
-    let n = printing::audit_line(&file[..i], &values[..j], &picks[..k], &mut out);
+    let mut out = [0u8; LINE_MOST];
+    let n = programs::audit_line(&file[..i], &values[..j], &picks[..k], &mut out);
     if !io::write_all(STDOUT_FILENO, &out[..n]) {
         fail(b"audit", b"standard output");
     }

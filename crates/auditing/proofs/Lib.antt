@@ -1,4 +1,6 @@
 -- Laws on plain values that the answers cite.
 pub mod Differences
+pub mod Highs
 pub mod Picking
-pub mod Chain
+pub mod Stops
+pub mod Promised

@@ -1,2 +1,3 @@
--- What the functions of this crate promise, in the model's terms, and why they can.
-pub mod Asked
+-- What the functions of this crate ask and promise, in the model's terms.
+pub mod StateTests
+pub mod TablesAsked

@@ -1,33 +1,25 @@
 // The audit of document 01: questions 1 to 11 and 15 to 19 of a file with a values table and a picks table.
-pub mod states;
-pub mod tables;
+mod asking;
+mod searches;
 
-use crate::tables::refused;
-use crate::tables::table_questions;
+use crate::asking::refused;
+use crate::asking::table_questions;
+use checking::questions::questions;
 use model::AuditAnswer;
 use model::FileAnswer;
 use reading::index::INDEX;
 use reading::layout::layout_of;
-use reading::questions::questions;
 ghost use mathlib.Core.Path.{_≡_};
-ghost use Prim.Native.Nat.{ℕ};
-ghost use lib.IntN.{ℤ};
-ghost use Rattle.model.specs.Answers.{auditedOf};
-ghost use Rattle.model.specs.Audit.{accepted, refused as audit-refused, audit as model-audit};
+ghost use Rattle.model.specs.Answers.{auditedOf, auditCarries, auditedCarries};
+ghost use Rattle.model.specs.Audit.{audit as model-audit};
+ghost use Rattle.model.specs.Carried.{Said};
 ghost use Rattle.model.specs.Sections.{problemOf};
-ghost use Rattle.model.specs.Value.{entry};
+ghost use Rattle.model.specs.Value.{byState};
 ghost use Rattle.model.specs.Promises.{Close, ExcessFits};
 
-// The audit of any bytes with any two tables. It changes neither. An accepted table is close, and the excess of a refusal has
-// the sign that its question says.
-pub fn audit(file: &[u8], values: &[u32], picks: &[u16]) -> AuditAnswer
+// The questions in order, to any bytes and any two tables.
+fn audit_file(file: &[u8], values: &[u32], picks: &[u16]) -> AuditAnswer
     ensures { λ r. ⌜ auditedOf r ≡ model-audit (now (file .entry)) (now (values .entry)) (now (picks .entry)) ⌝ }
-    ensures close { λ r.
-        ⌜ ((least : ℕ) → auditedOf r ≡ accepted least
-        → Close (problemOf (now (file .entry))) (entry (now (values .entry))) (entry (now (picks .entry))) least) ⌝ }
-    ensures excess { λ r.
-        ⌜ ((question place : ℕ) (excess : ℤ) → auditedOf r ≡ audit-refused question place excess
-        → ExcessFits (problemOf (now (file .entry)) .tolerance) question excess) ⌝ }
 {
     let mut index = [0u32; INDEX];
     let answer = questions(file, &mut index);
@@ -47,4 +39,20 @@ pub fn audit(file: &[u8], values: &[u32], picks: &[u16]) -> AuditAnswer
         return refused(15, 1, 0);
     }
     table_questions(file, &index, values, picks, n)
+}
+
+// The audit of any bytes with any two tables. It changes neither. An accepted table is close, and the excess of a
+// refusal has the sign that its question says.
+pub fn audit(file: &[u8], values: &[u32], picks: &[u16]) -> AuditAnswer
+    ensures { λ r.
+        ⌜ auditCarries r ≡ auditedCarries (model-audit (now (file .entry)) (now (values .entry)) (now (picks .entry))) ⌝ }
+    ensures close { λ r.
+        ⌜ (auditCarries r .said ≡ Said.accepted
+        → Close
+        (problemOf (now (file .entry))) (byState (now (values .entry))) (byState (now (picks .entry))) (auditCarries r .least)) ⌝ }
+    ensures excess { λ r.
+        ⌜ (auditCarries r .said ≡ Said.refused
+        → ExcessFits (problemOf (now (file .entry)) .tolerance) (auditCarries r .question) (auditCarries r .excess)) ⌝ }
+{
+    audit_file(file, values, picks)
 }

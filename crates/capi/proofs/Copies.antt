@@ -6,7 +6,7 @@ use native.Mathlib.Numerals.{add-one}
 use mathlib.Core.List.{List, _++_}
 use lib.ListN.{length, getD, set, take, drop, drop-of-length-le}
 use lib.Seq.{take-suc, drop-cons, set-at, take-all, length-take-le, append-snoc}
-use Rattle.capi.specs.Interface.{copied}
+use Rattle.model.specs.Buffers.{copied}
 
 -- the front i of `from` stands at the front of `to`
 abbrev pub copiedTo : List ℕ → List ℕ → ℕ → List ℕ

@@ -5,12 +5,13 @@ use model::SolveAnswer;
 ghost use mathlib.Core.Path.{_≡_};
 ghost use Prim.Native.Nat.{_≤_};
 ghost use lib.ListN.{length};
+ghost use Rattle.model.specs.Answers.{verdictCarries, auditedCarries};
 ghost use Rattle.model.specs.Audit.{audit};
+ghost use Rattle.model.specs.Buffers.{copied};
+ghost use Rattle.model.specs.Interface.{Written, HandsBack, plainNumbers, signedNumbers, three};
 ghost use Rattle.model.specs.Lookup.{rowsOf};
 ghost use Rattle.model.specs.Questions.{fileQuestions};
-ghost use Rattle.model.specs.Solution.{solution};
-ghost use Rattle.solving.specs.Solving.{tables};
-ghost use Rattle.capi.specs.Interface.{Written, Solves, checkNumbers, auditNumbers, copied, three};
+ghost use Rattle.model.specs.Solution.{tables, solution};
 
 // Writes three numbers to the front of a table that has room for them.
 fn put3(answer: &mut [u64], a: u64, b: u64, c: u64)
@@ -26,12 +27,14 @@ fn put3(answer: &mut [u64], a: u64, b: u64, c: u64)
 // nothing is written. Entries beyond the third stay.
 #[no_mangle]
 pub extern "C" fn cuulipso_check(file: &[u8], answer: &mut [u64]) -> u8
-    ensures { λ r. ⌜ Written (checkNumbers (fileQuestions (now (file .entry)))) (now (answer .entry)) (now (answer .exit)) r ⌝ }
+    ensures { λ r.
+        ⌜ Written
+        (plainNumbers (verdictCarries (fileQuestions (now (file .entry))))) (now (answer .entry)) (now (answer .exit)) r ⌝ }
 {
     if answer.len() < 3 {
         return 4;
     }
-    let said = reading::questions::check(file);
+    let said = checking::questions::check(file);
     match said {
         FileAnswer::Passed => {
             put3(answer, 0, 0, 0);
@@ -62,7 +65,7 @@ pub extern "C" fn cuulipso_rows(file: &[u8], state: u64, out: &mut [u8]) -> u64
         ⌜ (r ≡ length (rowsOf (now (file .entry)) state))
         × (now (out .exit) ≡ copied (rowsOf (now (file .entry)) state) (now (out .entry))) ⌝ }
 {
-    let rows = reading::questions::rows_of(file, state as usize);
+    let rows = checking::questions::rows_of(file, state as usize);
     copy_front(rows, out);
     rows.len() as u64
 }
@@ -80,7 +83,7 @@ pub extern "C" fn cuulipso_solve(
     answer: &mut [u64],
 ) -> u8
     ensures { λ r.
-        ⌜ Solves
+        ⌜ HandsBack
         (solution
         (now (file .entry)) budget
         (tables (now (values .entry)) (now (picks .entry)) (now (remembered .entry)) (now (walk .entry))))
@@ -136,7 +139,7 @@ pub extern "C" fn cuulipso_audit(
 ) -> u8
     ensures { λ r.
         ⌜ Written
-        (auditNumbers (audit (now (file .entry)) (now (values .entry)) (now (picks .entry))))
+        (signedNumbers (auditedCarries (audit (now (file .entry)) (now (values .entry)) (now (picks .entry)))))
         (now (answer .entry)) (now (answer .exit)) r ⌝ }
 {
     if answer.len() < 3 {

@@ -1,6 +1,6 @@
 -- What it means that questions 16 to 19 say yes to a table and picks, in plain facts, and that these facts are enough.
 -- Each question is a search, read through the law that it ends at its bound exactly where every test says yes.
-use mathlib.Core.Path.{_≡_, refl, sym}
+use mathlib.Core.Path.{_≡_, refl, sym, _∙_}
 use Prim.Native.Nat.{ℕ, _+_, _-_, _≤_, _<_}
 use native.Mathlib.Omega.{arith}
 use mathlib.Core.Bool.{Bool, true, false, _||_, not, true≢false}
@@ -12,17 +12,16 @@ use lib.IntN.{ℤ}
 use borrow.Author.Tests.{leb-true, le-leb, eqb-true, eq-eqb, not-true}
 use Rattle.model.specs.Limits.{giveUp}
 use Rattle.model.specs.Problem.{Problem, giveUpCost, ownRow}
-use Rattle.model.specs.Value.{entry}
+use Rattle.model.specs.Value.{byState}
 use Rattle.model.specs.Sections.{problemOf}
 use Rattle.model.specs.Questions.{Verdict, passes, fails, fileQuestions, undercutState}
 use Rattle.model.specs.Walk.{walk, leastCost}
 use Rattle.model.specs.Audit.{Audited, accepted, refused, orElse, pickValue, boundedOn, unboundedState, open-state, strayState}
 use Rattle.model.specs.Audit.{slackState}
 use Rattle.model.specs.Audit.{tableQuestions, problemAudit, auditOn, audit}
-use Rattle.guarantee.specs.Formed.{WellFormed}
+use Rattle.guarantee.specs.WellFormed.{WellFormed, well-formed}
 use Rattle.guarantee.specs.Searches.{and-left, and-right, or-cases, or-left, or-right, implied, implies, each-yes, yes-each}
 use Rattle.guarantee.specs.Undercuts.{NoUndercut, undercut-none, none-undercut}
-use Rattle.guarantee.specs.WellFormed.{well-formed}
 
 -- the walk of the picks marks the state
 abbrev pub Marked : Problem → (ℕ → ℕ) → ℕ → Type 0
@@ -50,14 +49,14 @@ accepted-high p v picks C facts s l = step (p .goal s) refl
 
 -- a refusal of the audit never accepts
 
-else-yes : (b : Bool) (q i : ℕ) (excess : ℤ) (next : Audited) (C : ℕ) → orElse b (refused q i excess) next ≡ accepted C → b ≡ true
-else-yes true q i excess next C h = refl
-else-yes false q i excess next C h = cc
+else-yes : (b : Bool) (q i : ℕ) (excess : ℤ) (next : Audited) {C : ℕ} → orElse b (refused q i excess) next ≡ accepted C → b ≡ true
+else-yes true q i excess next h = refl
+else-yes false q i excess next h = cc
 
-else-next : (b : Bool) (q i : ℕ) (excess : ℤ) (next : Audited) (C : ℕ) → orElse b (refused q i excess) next ≡ accepted C
+else-next : (b : Bool) (q i : ℕ) (excess : ℤ) (next : Audited) {C : ℕ} → orElse b (refused q i excess) next ≡ accepted C
     → next ≡ accepted C
-else-next true q i excess next C h = h
-else-next false q i excess next C h = cc
+else-next true q i excess next h = h
+else-next false q i excess next h = cc
 
 -- question 16
 
@@ -115,16 +114,16 @@ module _ (p : Problem) (v picks : ℕ → ℕ) where
   table-yes : (C : ℕ) → tableQuestions p v picks ≡ accepted C → TableYes C
   unfolding tableQuestions
   table-yes C h =
-      let h₁ = else-next (leb (p .states) (unboundedState p v)) _ _ _ _ C h in
-      let h₂ = else-next (leb (p .states) (undercutState p v)) _ _ _ _ C h₁ in
-      let h₃ = else-next (leb (p .states) (strayState p picks (walk p picks .marks))) _ _ _ _ C h₂ in
+      let h₁ = else-next (leb (p .states) (unboundedState p v)) _ _ _ _ h in
+      let h₂ = else-next (leb (p .states) (undercutState p v)) _ _ _ _ h₁ in
+      let h₃ = else-next (leb (p .states) (strayState p picks (walk p picks .marks))) _ _ _ _ h₂ in
       let h₄ : accepted (leastCost p picks) ≡ accepted C =
-      else-next (leb (p .states) (slackState p v picks (walk p picks .marks))) _ _ _ _ C h₃ in
+      else-next (leb (p .states) (slackState p v picks (walk p picks .marks))) _ _ _ _ h₃ in
       record {
-        bounded = else-yes _ _ _ _ _ C h;
-        undercut = else-yes _ _ _ _ _ C h₁;
-        stray = else-yes _ _ _ _ _ C h₂;
-        slack = else-yes _ _ _ _ _ C h₃;
+        bounded = else-yes _ _ _ _ _ h;
+        undercut = else-yes _ _ _ _ _ h₁;
+        stray = else-yes _ _ _ _ _ h₂;
+        slack = else-yes _ _ _ _ _ h₃;
         least = cc;
       }
 
@@ -132,8 +131,39 @@ module _ (p : Problem) (v picks : ℕ → ℕ) where
   unfolding tableQuestions
   yes-table C h = rw (h .bounded, h .undercut, h .stray, h .slack, h .least)
 
+  -- question 16 says yes to a table that is 0 at goals and at most 1000 × D elsewhere
+  pub bounded-table
+      : ((s : ℕ) → s < p .states → p .goal s ≡ true → v s ≡ 0) → ((s : ℕ) → s < p .states → p .goal s ≡ false → v s ≤ giveUpCost p)
+      → leb (p .states) (unboundedState p v) ≡ true
+  unfolding unboundedState
+  bounded-table zeros high =
+      yes-each (λ s. boundedOn (p .goal s) (giveUpCost p) (v s)) (p .states)
+      λ s l. bounded-yes (p .goal s) (giveUpCost p) (v s) (zeros s l) (high s l)
+
+  -- question 18 says yes to picks that fit at the marked states
+  pub fitting-picks
+      : ((s : ℕ) → s < p .states → p .goal s ≡ false → Marked p picks s → (picks s ≡ giveUp) ⊎ (ownRow p s (picks s) ≡ true))
+      → leb (p .states) (strayState p picks (walk p picks .marks)) ≡ true
+  unfolding strayState
+  fitting-picks fits =
+      let marks = walk p picks .marks in
+      yes-each (λ s. not (open-state p marks s) || fitting p picks s) (p .states)
+      λ s l.
+      implies (open-state p marks s) (fitting p picks s)
+      λ e. cases-fitting p picks s (fits s l (open-goal p marks s e) (open-marked p marks s e))
+
+  -- what question 19 says of each marked state that is no goal
+  pub close-picks
+      : leb (p .states) (slackState p v picks (walk p picks .marks)) ≡ true
+      → (s : ℕ) → s < p .states → p .goal s ≡ false → Marked p picks s → pickValue p v picks s ≤ v s + p .tolerance - 1
+  unfolding slackState
+  close-picks said s l goal marked =
+      let marks = walk p picks .marks in
+      let test : (not (open-state p marks s) || close p v picks s) ≡ true = each-yes _ (p .states) said s l in
+      leb-true _ _ (implied (open-state p marks s) (close p v picks s) test (open-yes p marks s goal marked))
+
   pub accepts : (C : ℕ) → tableQuestions p v picks ≡ accepted C → Accepts p v picks C
-  unfolding unboundedState strayState slackState
+  unfolding unboundedState strayState
   accepts C h =
       let said = table-yes C h in
       let marks = walk p picks .marks in
@@ -145,28 +175,19 @@ module _ (p : Problem) (v picks : ℕ → ℕ) where
             λ s l goal marked.
             let test : (not (open-state p marks s) || fitting p picks s) ≡ true = each-yes _ (p .states) (said .stray) s l in
             fitting-cases p picks s (implied (open-state p marks s) (fitting p picks s) test (open-yes p marks s goal marked));
-        pick-close =
-            λ s l goal marked.
-            let test : (not (open-state p marks s) || close p v picks s) ≡ true = each-yes _ (p .states) (said .slack) s l in
-            leb-true _ _ (implied (open-state p marks s) (close p v picks s) test (open-yes p marks s goal marked));
+        pick-close = close-picks (said .slack);
         least = said .least;
       }
 
   pub accepted-table : (C : ℕ) → Accepts p v picks C → tableQuestions p v picks ≡ accepted C
-  unfolding unboundedState strayState slackState
+  unfolding slackState
   accepted-table C facts =
       let marks = walk p picks .marks in
       yes-table C
       record {
-        bounded =
-            yes-each (λ s. boundedOn (p .goal s) (giveUpCost p) (v s)) (p .states)
-            λ s l. bounded-yes (p .goal s) (giveUpCost p) (v s) (facts .goal-zero s l) (facts .value-high s l);
+        bounded = bounded-table (facts .goal-zero) (facts .value-high);
         undercut = none-undercut p v (facts .no-undercut);
-        stray =
-            yes-each (λ s. not (open-state p marks s) || fitting p picks s) (p .states)
-            λ s l.
-            implies (open-state p marks s) (fitting p picks s)
-            λ e. cases-fitting p picks s (facts .pick-fits s l (open-goal p marks s e) (open-marked p marks s e));
+        stray = fitting-picks (facts .pick-fits);
         slack =
             yes-each (λ s. not (open-state p marks s) || close p v picks s) (p .states)
             λ s l.
@@ -182,16 +203,16 @@ pub record AuditYes (f values picks : List ℕ) (C : ℕ) : Type 0 where
   pub file-passes : fileQuestions f ≡ passes
   pub values-long : problemOf f .states ≤ length values
   pub picks-long : problemOf f .states ≤ length picks
-  pub table-accepted : tableQuestions (problemOf f) (entry values) (entry picks) ≡ accepted C
+  pub table-accepted : tableQuestions (problemOf f) (byState values) (byState picks) ≡ accepted C
 
 problem-yes : (p : Problem) (values picks : List ℕ) (C : ℕ) → problemAudit p values picks ≡ accepted C
-    → (p .states ≤ length values) × (p .states ≤ length picks) × (tableQuestions p (entry values) (entry picks) ≡ accepted C)
+    → (p .states ≤ length values) × (p .states ≤ length picks) × (tableQuestions p (byState values) (byState picks) ≡ accepted C)
 unfolding problemAudit
 problem-yes p values picks C h =
-    let h₁ = else-next (leb (p .states) (length values)) _ _ _ _ C h in (
-      leb-true _ _ (else-yes (leb (p .states) (length values)) _ _ _ _ C h),
-      leb-true _ _ (else-yes (leb (p .states) (length picks)) _ _ _ _ C h₁),
-      else-next (leb (p .states) (length picks)) _ _ _ _ C h₁,
+    let h₁ = else-next (leb (p .states) (length values)) _ _ _ _ h in (
+      leb-true _ _ (else-yes (leb (p .states) (length values)) _ _ _ _ h),
+      leb-true _ _ (else-yes (leb (p .states) (length picks)) _ _ _ _ h₁),
+      else-next (leb (p .states) (length picks)) _ _ _ _ h₁,
     )
 
 pub audit-yes : (f values picks : List ℕ) (C : ℕ) → audit f values picks ≡ accepted C → AuditYes f values picks C
@@ -204,22 +225,24 @@ audit-yes f values picks C h = step (fileQuestions f) refl h
         record { file-passes = e; values-long = said .0; picks-long = said .1; table-accepted = said .2 }
     step (fails q i) e h = absurd (true≢false (cc))
 
-pub yes-audit : (f values picks : List ℕ) (C : ℕ) → AuditYes f values picks C → audit f values picks ≡ accepted C
+-- with tables long enough the audit of a file that passes puts questions 16 to 19
+pub audit-table
+    : (f values picks : List ℕ) → fileQuestions f ≡ passes → problemOf f .states ≤ length values → problemOf f .states ≤ length picks
+    → audit f values picks ≡ tableQuestions (problemOf f) (byState values) (byState picks)
 unfolding audit problemAudit
+audit-table f values picks file values-long picks-long =
+    rw (file, le-leb (problemOf f .states) (length values) values-long, le-leb (problemOf f .states) (length picks) picks-long) refl
+
+pub yes-audit : (f values picks : List ℕ) (C : ℕ) → AuditYes f values picks C → audit f values picks ≡ accepted C
 yes-audit f values picks C given =
-    rw (
-      given .file-passes,
-      le-leb (problemOf f .states) (length values) (given .values-long),
-      le-leb (problemOf f .states) (length picks) (given .picks-long),
-    )
-    (given .table-accepted)
+    audit-table f values picks (given .file-passes) (given .values-long) (given .picks-long) ∙ given .table-accepted
 
 pub audit-formed : (f values picks : List ℕ) (C : ℕ) → audit f values picks ≡ accepted C → WellFormed (problemOf f)
 audit-formed f values picks C h = well-formed f (audit-yes f values picks C h .file-passes)
 
 pub audit-accepts
-    : (f values picks : List ℕ) (C : ℕ) → audit f values picks ≡ accepted C → Accepts (problemOf f) (entry values) (entry picks) C
-audit-accepts f values picks C h = accepts (problemOf f) (entry values) (entry picks) C (audit-yes f values picks C h .table-accepted)
+    : (f values picks : List ℕ) (C : ℕ) → audit f values picks ≡ accepted C → Accepts (problemOf f) (byState values) (byState picks) C
+audit-accepts f values picks C h = accepts (problemOf f) (byState values) (byState picks) C (audit-yes f values picks C h .table-accepted)
 
 -- "the audit accepts exactly when its questions all say yes", each told by what it asks
 pub audit-exactly
@@ -228,7 +251,7 @@ pub audit-exactly
     ↔ ((fileQuestions f ≡ passes)
     × (problemOf f .states ≤ length values)
     × (problemOf f .states ≤ length picks)
-    × Accepts (problemOf f) (entry values) (entry picks) C)
+    × Accepts (problemOf f) (byState values) (byState picks) C)
 audit-exactly f values picks C = (
   λ h. let yes = audit-yes f values picks C h in (yes .file-passes, yes .values-long, yes .picks-long, audit-accepts f values picks C h),
   λ h.
@@ -237,6 +260,6 @@ audit-exactly f values picks C = (
         file-passes = h .0;
         values-long = h .1;
         picks-long = h .2;
-        table-accepted = accepted-table (problemOf f) (entry values) (entry picks) C (h .3);
+        table-accepted = accepted-table (problemOf f) (byState values) (byState picks) C (h .3);
       }),
 )

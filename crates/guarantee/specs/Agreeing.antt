@@ -15,7 +15,7 @@ use Rattle.model.specs.Walk.{walk, leastCost, leastTo, pickCost}
 use Rattle.model.specs.Questions.{undercutRow, undercutState}
 use Rattle.model.specs.Audit.{Audited, accepted, refused, orElse, pickValue, pickValueOn, boundedOn, unboundedState, open-state}
 use Rattle.model.specs.Audit.{strayState, slackState, tableQuestions}
-use Rattle.guarantee.specs.Formed.{WellFormed}
+use Rattle.guarantee.specs.WellFormed.{WellFormed}
 use Rattle.guarantee.specs.Searches.{first-same, first-at, each-yes, implied}
 use Rattle.guarantee.specs.Values.{rowValue-same-states}
 use Rattle.guarantee.specs.Walks.{rows-within, own-row, walk-same}
@@ -35,9 +35,9 @@ slack-open p v picks marks l =
     said false b e = absurd (true≢false e)
 
 or-else-same
-    : (b b′ : Bool) (r r′ n n′ : Audited) → b ≡ b′ → (b ≡ false → r ≡ r′) → (b ≡ true → n ≡ n′) → orElse b r n ≡ orElse b′ r′ n′
-or-else-same true b′ r r′ n n′ e no-same yes-same = rw (← e) (yes-same refl)
-or-else-same false b′ r r′ n n′ e no-same yes-same = rw (← e) (no-same refl)
+    : {b b′ : Bool} {r r′ n n′ : Audited} → b ≡ b′ → (b ≡ false → r ≡ r′) → (b ≡ true → n ≡ n′) → orElse b r n ≡ orElse b′ r′ n′
+or-else-same {b = true} e no-same yes-same = rw (← e) (yes-same refl)
+or-else-same {b = false} e no-same yes-same = rw (← e) (no-same refl)
 
 module _ (p : Problem) (formed : WellFormed p) (v w picks picks′ : ℕ → ℕ) (values-agree : (s : ℕ) → s < p .states → v s ≡ w s)
     (picks-agree : (s : ℕ) → s < p .states → picks s ≡ picks′ s) where
@@ -150,8 +150,8 @@ module _ (p : Problem) (formed : WellFormed p) (v w picks picks′ : ℕ → ℕ
   pub tables-same : tableQuestions p v picks ≡ tableQuestions p w picks′
   unfolding tableQuestions
   tables-same =
-      or-else-same _ _ _ _ _ _ (ap (leb (p .states)) unbounded-same) (λ n. ap (λ s. refused 16 s (pos 0)) unbounded-same)
-      λ bounded. or-else-same _ _ _ _ _ _ (ap (leb (p .states)) state-same) (λ n. undercut-same (leb-false _ _ n))
-      λ above. or-else-same _ _ _ _ _ _ (ap (leb (p .states)) stray-same) (λ n. ap (λ s. refused 18 s (pos 0)) stray-same)
-      λ straight. or-else-same _ _ _ _ _ _ (ap (leb (p .states)) (slack-same straight)) (λ n. slack-refusal straight (leb-false _ _ n))
+      or-else-same (ap (leb (p .states)) unbounded-same) (λ n. ap (λ s. refused 16 s (pos 0)) unbounded-same)
+      λ bounded. or-else-same (ap (leb (p .states)) state-same) (λ n. undercut-same (leb-false _ _ n))
+      λ above. or-else-same (ap (leb (p .states)) stray-same) (λ n. ap (λ s. refused 18 s (pos 0)) stray-same)
+      λ straight. or-else-same (ap (leb (p .states)) (slack-same straight)) (λ n. slack-refusal straight (leb-false _ _ n))
       λ close. ap accepted least-same

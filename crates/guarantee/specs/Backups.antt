@@ -6,17 +6,17 @@ use native.Mathlib.Omega.{arith}
 use mathlib.Core.Bool.{Bool, true, false, or-true, or-false}
 use mathlib.Core.List.{List, [], _∷_}
 use lib.Dec.{eqb}
-use lib.ListN.{getD, set, length, length-set}
+use lib.ListN.{getD, set}
 use lib.Seq.{set-getD}
 use borrow.Author.Tests.{leb-true, leb-false, eqb-true, eqb-false}
 use Rattle.model.specs.Problem.{Problem}
-use Rattle.model.specs.Value.{entry}
+use Rattle.model.specs.Value.{byState}
 use Rattle.model.specs.Walk.{In, here, there, walk}
 use Rattle.model.specs.Rounds.{Machine, Found, scanOf, raiseOn, rises, settle, backup}
 use Rattle.model.specs.Rounds.{backups, walked, round, Ending, solved, spent, runFrom}
-use Rattle.guarantee.specs.Formed.{WellFormed}
+use Rattle.guarantee.specs.WellFormed.{WellFormed}
 use Rattle.guarantee.specs.Walks.{listed-state, listed-open}
-use Rattle.guarantee.specs.Sound.{Sound, scan-law, raise-length, values-rise, backup-sound}
+use Rattle.guarantee.specs.Sound.{Sound, backup-sound}
 
 -- a state that is no goal
 pub record Open (p : Problem) (s : ℕ) : Type 0 where
@@ -74,9 +74,9 @@ unfolding backups
 backups-list p e [] m = refl
 backups-list p e (s ∷ l) m = backups-list p e l (backup p e s m) ∙ backup-list p e s m
 
-pub round-list : (p : Problem) (e : ℕ) (m : Machine) → round p e m .list ≡ walk p (entry (m .picks)) .list
+pub round-list : (p : Problem) (e : ℕ) (m : Machine) → round p e m .list ≡ walk p (byState (m .picks)) .list
 unfolding round
-round-list p e m = backups-list p e (walk p (entry (m .picks)) .list) (walked p m)
+round-list p e m = backups-list p e (walk p (byState (m .picks)) .list) (walked p m)
 
 pub walk-opens : (p : Problem) → WellFormed p → (picks : ℕ → ℕ) (s : ℕ) → In s (walk p picks .list) → Open p s
 walk-opens p formed picks s i = record { state = listed-state p formed picks s i; no-goal = listed-open p formed picks s i }
@@ -90,7 +90,7 @@ module _ (p : Problem) (e : ℕ) (Inv : Machine → Type 0) (kept : (s : ℕ) (m
 
   pub round-keeps : WellFormed p → (m : Machine) → Inv (walked p m) → Inv (round p e m)
   unfolding round
-  round-keeps formed m h = backups-keep (walk p (entry (m .picks)) .list) (walked p m) (walk-opens p formed (entry (m .picks))) h
+  round-keeps formed m h = backups-keep (walk p (byState (m .picks)) .list) (walked p m) (walk-opens p formed (byState (m .picks))) h
 
 -- the quiet round that ends a solved run: the machine before it, of which `Inv n` holds after n rounds
 pub record Quiet (p : Problem) (e : ℕ) (Inv : ℕ → Machine → Type 0) (k : ℕ) (m : Machine) : Type 0 where
@@ -134,7 +134,20 @@ module _ (p : Problem) (e : ℕ) (Inv : ℕ → Machine → Type 0) (kept : (n :
           let done : solved (suc n) (round p e m) ≡ solved k m′ = sym (run-stops p e budget (suc n) (round p e m)) ∙ q in
           record { rounds = n; before = m; held = h; quiet = still; count = cc; ends = cc }
 
--- rounds and runs keep a machine sound
+-- a run that is spent has done every round of its budget
+pub run-spent
+    : (p : Problem) (e budget n : ℕ) (m : Machine) (k : ℕ) (m′ : Machine) → runFrom p e budget true n m ≡ spent k m′ → k ≡ n + budget
+unfolding runFrom
+run-spent p e zero n m k m′ q = let same : n ≡ k = cc in omega arith
+run-spent p e (suc budget) n m k m′ q = go (round p e m .moved) q (run-spent p e budget (suc n) (round p e m) k m′)
+  where
+    go
+        : (b : Bool) → runFrom p e budget b (suc n) (round p e m) ≡ spent k m′
+        → (runFrom p e budget true (suc n) (round p e m) ≡ spent k m′ → k ≡ suc n + budget) → k ≡ n + suc budget
+    go true q ih = omega (arith, ih q)
+    go false q ih = absurd (spent-not-solved (sym q ∙ run-stops p e budget (suc n) (round p e m)))
+
+-- rounds keep a machine sound
 module _ (p : Problem) (formed : WellFormed p) (e : ℕ) where
   pub walked-sound : (m : Machine) → Sound p m → Sound p (walked p m)
   walked-sound m h =
@@ -153,46 +166,3 @@ module _ (p : Problem) (formed : WellFormed p) (e : ℕ) where
   pub round-sound : (m : Machine) → Sound p m → Sound p (round p e m)
   round-sound m h =
       round-keeps p e (Sound p) (λ s n o k. backup-sound p formed s n (o .state) k e (o .no-goal)) formed m (walked-sound m h)
-
-  pub run-sound : (budget : ℕ) (going : Bool) (n : ℕ) (m : Machine) → Sound p m → Sound p (machineOf (runFrom p e budget going n m))
-  run-sound = run-keeps p e (λ n. Sound p) (λ n. round-sound)
-
--- what sound backups lead to from a machine: still sound, tables as long as before, no value fallen
-pub record Follows (p : Problem) (m m′ : Machine) : Type 0 where
-  pub sound : Sound p m′
-  pub values-length : length (m′ .values) ≡ length (m .values)
-  pub picks-length : length (m′ .picks) ≡ length (m .picks)
-  pub remembered-length : length (m′ .remembered) ≡ length (m .remembered)
-  pub risen : (s : ℕ) → getD (m .values) s 0 ≤ getD (m′ .values) s 0
-
-module _ (p : Problem) (formed : WellFormed p) (e : ℕ) where
-  pub follows-none : (m : Machine) → Sound p m → Follows p m m
-  follows-none m h =
-      record { sound = h; values-length = refl; picks-length = refl; remembered-length = refl; risen = λ s. omega arith }
-
-  pub backup-follows : (m : Machine) (s : ℕ) (a : Machine) → Open p s → Follows p m a → Follows p m (backup p e s a)
-  unfolding backup settle
-  backup-follows m s a o h =
-      record {
-        sound = backup-sound p formed s a (o .state) (h .sound) e (o .no-goal);
-        values-length = raise-length (rises e s a (scanOf p s a)) (a .values) s (scanOf p s a .best) ∙ h .values-length;
-        picks-length = length-set (a .picks) s (scanOf p s a .pick) ∙ h .picks-length;
-        remembered-length = scan-law p formed s a (o .state) (h .sound) .size ∙ h .remembered-length;
-        risen = λ t. omega (arith, h .risen t, values-rise p formed s a (o .state) (h .sound) e t);
-      }
-
-  walked-follows : (m a : Machine) → Follows p m a → Follows p m (walked p a)
-  walked-follows m a h =
-      record {
-        sound = walked-sound p formed e a (h .sound);
-        values-length = h .values-length;
-        picks-length = h .picks-length;
-        remembered-length = h .remembered-length;
-        risen = h .risen;
-      }
-
-  pub round-follows : (m a : Machine) → Follows p m a → Follows p m (round p e a)
-  round-follows m a h = round-keeps p e (Follows p m) (backup-follows m) formed a (walked-follows m a h)
-
-  pub run-follows : (budget : ℕ) (going : Bool) (n : ℕ) (m : Machine) → Sound p m → Follows p m (machineOf (runFrom p e budget going n m))
-  run-follows budget going n m h = run-keeps p e (λ k. Follows p m) (λ k. round-follows m) budget going n m (follows-none m h)

@@ -12,41 +12,42 @@ use Rattle.guarantee.specs.Rows.{own-low, own-high}
 use Rattle.guarantee.specs.Choosing.{Chosen, choice, Landed, at-giving-up, at-row, choice-high, choice-under, choice-landed}
 
 module _ (p : Problem) (v : ℕ → ℕ) where
-  pub least-high : (k r : ℕ) → leastValue p v r k ≤ giveUpCost p
+  pub leastValue-high : (k r : ℕ) → leastValue p v r k ≤ giveUpCost p
   unfolding leastValue
-  least-high zero r = omega arith
-  least-high (suc k) r = omega (arith, least-high k (suc r))
+  leastValue-high zero r = omega arith
+  leastValue-high (suc k) r = omega (arith, leastValue-high k (suc r))
 
-  pub least-under : (k r i : ℕ) → r ≤ i → i < r + k → leastValue p v r k ≤ rowValue p v i
+  pub leastValue-under : (k r i : ℕ) → r ≤ i → i < r + k → leastValue p v r k ≤ rowValue p v i
   unfolding leastValue
-  least-under zero r i low high = absurd (omega arith)
-  least-under (suc k) r i low high = go (eq-or-lt-of-le low) (least-under k (suc r) i)
+  leastValue-under zero r i low high = absurd (omega arith)
+  leastValue-under (suc k) r i low high = go (eq-or-lt-of-le low) (leastValue-under k (suc r) i)
     where
       go : (r ≡ i) ⊎ (r < i) → (suc r ≤ i → i < suc r + k → leastValue p v (suc r) k ≤ rowValue p v i)
           → min (rowValue p v r) (leastValue p v (suc r) k) ≤ rowValue p v i
       go (inl at) ih = rw (← at) (omega arith)
       go (inr l) ih = omega (arith, ih l (omega arith))
 
-  pub least-greatest
+  pub leastValue-greatest
       : (x k r : ℕ) → x ≤ giveUpCost p → ((i : ℕ) → r ≤ i → i < r + k → x ≤ rowValue p v i) → x ≤ leastValue p v r k
   unfolding leastValue
-  least-greatest x zero r top rows = top
-  least-greatest x (suc k) r top rows =
-      omega (arith, rows r (omega arith) (omega arith), least-greatest x k (suc r) top (λ i low high. rows i (omega arith) (omega arith)))
+  leastValue-greatest x zero r top rows = top
+  leastValue-greatest x (suc k) r top rows =
+      let rest = leastValue-greatest x k (suc r) top (λ i low high. rows i (omega arith) (omega arith)) in
+      omega (arith, rows r (omega arith) (omega arith), rest)
 
   module _ (s : ℕ) where
     pub bellman-high : bellman p v s ≤ giveUpCost p
     unfolding bellman
-    bellman-high = least-high (p .rowCount s) (p .firstRow s)
+    bellman-high = leastValue-high (p .rowCount s) (p .firstRow s)
 
     pub bellman-under : (r : ℕ) → p .firstRow s ≤ r → r < endRow p s → bellman p v s ≤ rowValue p v r
     unfolding bellman
-    bellman-under = least-under (p .rowCount s) (p .firstRow s)
+    bellman-under = leastValue-under (p .rowCount s) (p .firstRow s)
 
     pub bellman-greatest
         : (x : ℕ) → x ≤ giveUpCost p → ((r : ℕ) → p .firstRow s ≤ r → r < endRow p s → x ≤ rowValue p v r) → x ≤ bellman p v s
     unfolding bellman
-    bellman-greatest x = least-greatest x (p .rowCount s) (p .firstRow s)
+    bellman-greatest x = leastValue-greatest x (p .rowCount s) (p .firstRow s)
 
     landed-bellman : (c : Chosen) → Landed p v s c → bellman p v s ≤ c .best
     landed-bellman c (at-giving-up e b) = omega (arith, bellman-high)

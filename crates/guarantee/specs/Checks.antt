@@ -9,13 +9,13 @@ use lib.Dec.{leb, eqb}
 use lib.ListN.{getD}
 use borrow.Author.Tests.{lt-ltb}
 use Rattle.model.specs.Problem.{Problem, ownRow}
-use Rattle.model.specs.Value.{entry}
+use Rattle.model.specs.Value.{byState}
 use Rattle.model.specs.Walk.{In, here, there, walk}
 use Rattle.model.specs.Rounds.{Found, Machine, considerOn, consider, considerIf, scanFrom, scan, scanStart, scanOf}
 use Rattle.model.specs.Rounds.{backup, backups, walked, round, runFrom}
 use Rattle.model.specs.Solution.{fine, checkedEvaluate, checkedConsiderOn, checkedConsider, checkedConsiderIf, checkedScanFrom}
 use Rattle.model.specs.Solution.{checkedScan, checkedBackup, checkedBackups, checkedRound, checkedRunFrom}
-use Rattle.guarantee.specs.Formed.{WellFormed}
+use Rattle.guarantee.specs.WellFormed.{WellFormed}
 use Rattle.guarantee.specs.Walks.{rows-within}
 use Rattle.guarantee.specs.Rows.{own-high, row-of-file}
 use Rattle.guarantee.specs.Sound.{Sound, evaluation-fits, backup-sound}
@@ -24,28 +24,28 @@ use Rattle.guarantee.specs.Backups.{Open, walk-opens, walked-sound, roun
 module _ (p : Problem) (formed : WellFormed p) where
   -- the rows of one backup
   module _ (m : Machine) (sound : Sound p m) where
-    pub checked-consider : (r : ℕ) (a : Found) → r < p .rows → checkedConsider p r m a ≡ fine (consider p (entry (m .values)) r a)
+    pub checked-consider : (r : ℕ) (a : Found) → r < p .rows → checkedConsider p r m a ≡ fine (consider p (byState (m .values)) r a)
     unfolding checkedConsider checkedConsiderOn checkedEvaluate consider considerOn
     checked-consider r a l = go (leb (a .best) (getD (a .remembered) r 0))
       where
-        go : (b : Bool) → checkedConsiderOn b p r m a ≡ fine (considerOn b p (entry (m .values)) r a)
+        go : (b : Bool) → checkedConsiderOn b p r m a ≡ fine (considerOn b p (byState (m .values)) r a)
         go true = refl
         go false = rw (lt-ltb _ _ (evaluation-fits p formed m sound r l)) refl
 
     pub checked-if
         : (b : Bool) (r : ℕ) (a : Found) → (b ≡ true → r < p .rows)
-        → checkedConsiderIf b p r m a ≡ fine (considerIf b p (entry (m .values)) r a)
+        → checkedConsiderIf b p r m a ≡ fine (considerIf b p (byState (m .values)) r a)
     unfolding checkedConsiderIf considerIf
     checked-if true r a l = checked-consider r a (l refl)
     checked-if false r a l = refl
 
     pub checked-from
-        : (prev r k : ℕ) (a : Found) → r + k ≤ p .rows → checkedScanFrom p m prev r k a ≡ fine (scanFrom p (entry (m .values)) prev r k a)
+        : (prev r k : ℕ) (a : Found) → r + k ≤ p .rows → checkedScanFrom p m prev r k a ≡ fine (scanFrom p (byState (m .values)) prev r k a)
     unfolding checkedScanFrom scanFrom
     checked-from prev r zero a h = refl
     checked-from prev r (suc k) a h =
         rw (checked-if (not (eqb r prev)) r a (λ e. omega arith))
-        (checked-from prev (suc r) k (considerIf (not (eqb r prev)) p (entry (m .values)) r a) (omega arith))
+        (checked-from prev (suc r) k (considerIf (not (eqb r prev)) p (byState (m .values)) r a) (omega arith))
 
     pub checked-scan : (s : ℕ) → s < p .states → checkedScan p m s (getD (m .picks) s 0) ≡ fine (scanOf p s m)
     unfolding checkedScan scan
@@ -70,7 +70,7 @@ module _ (p : Problem) (formed : WellFormed p) where
   pub checked-round : (e : ℕ) (m : Machine) → Sound p m → checkedRound p e m ≡ fine (round p e m)
   unfolding checkedRound round
   checked-round e m sound =
-      let picks = entry (m .picks) in
+      let picks = byState (m .picks) in
       checked-backups e (walk p picks .list) (walked p m) (walk-opens p formed picks) (walked-sound p formed e m sound)
 
   -- "At an evaluation: does the row value fit in 32 bits?" Always: the run with that check is the run without

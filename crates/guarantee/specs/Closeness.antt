@@ -10,15 +10,15 @@ use mathlib.Core.List.{List, map}
 use mathlib.Core.Logic.{_⊎_, inl, inr}
 use lib.Dec.{eqb}
 use borrow.Author.Tests.{eq-eqb}
-use Rattle.model.specs.Limits.{weightTotal, giveUp}
+use Rattle.model.specs.Limits.{ticksPerSecond, weightTotal, giveUp}
 use Rattle.model.specs.Problem.{Problem, Outcome, giveUpCost, ownRow}
-use Rattle.model.specs.Value.{rowTicks, rowValue, weightedSum, entry}
+use Rattle.model.specs.Value.{rowTicks, rowValue, weightedSum, byState}
 use Rattle.model.specs.Sections.{problemOf}
 use Rattle.model.specs.Walk.{In, here, there, next, Reached, at-start, along, pickCostOn, pickCost}
 use Rattle.model.specs.Audit.{accepted, pickValueOn, pickValue, tableQuestions, audit}
 use Rattle.model.specs.Cover.{Choice, picks-row, gives-up, picks-nothing, CoversAt, Cover, choiceOn, planOf}
 use Rattle.model.specs.Promises.{Close}
-use Rattle.guarantee.specs.Formed.{WellFormed}
+use Rattle.guarantee.specs.WellFormed.{WellFormed}
 use Rattle.guarantee.specs.Rows.{own-low, own-high}
 use Rattle.guarantee.specs.Undercuts.{NoUndercut}
 use Rattle.guarantee.specs.Values.{rowValue-low, rowValue-high}
@@ -83,29 +83,29 @@ module _ (p : Problem) (formed : WellFormed p) (v picks : ℕ → ℕ) (C : ℕ)
   marked : (s : ℕ) → Reached p picks s → Marked p picks s
   marked s reached = rw (reached-marked p formed picks s reached)
 
-  -- a pick that fits costs 1000 ticks at least
+  -- a pick that fits costs a second at least
   pick-cost-low
-      : (s : ℕ) → s < p .states → (picks s ≡ giveUp) ⊎ (ownRow p s (picks s) ≡ true) → 1000 ≤ pickCost p picks s
+      : (s : ℕ) → s < p .states → (picks s ≡ giveUp) ⊎ (ownRow p s (picks s) ≡ true) → ticksPerSecond ≤ pickCost p picks s
   unfolding pickCost
   pick-cost-low s inner (inl e) = rw (eq-eqb (picks s) giveUp e) (omega (arith, formed .penalty-low))
   pick-cost-low s inner (inr own) = step (eqb (picks s) giveUp)
     where
-      step : (b : Bool) → 1000 ≤ pickCostOn b p (picks s)
+      step : (b : Bool) → ticksPerSecond ≤ pickCostOn b p (picks s)
       step true = omega (arith, formed .penalty-low)
       step false = omega (arith, formed .cost-low (picks s) (own-row p formed s (picks s) inner own))
 
-  least-high : 1000 ≤ C
-  least-high =
+  least-a-second : ticksPerSecond ≤ C
+  least-a-second =
       let one = least-cheapest p formed picks in
       let inner = reached-state p formed picks (one .state) (one .reached) in
       let fits = facts .pick-fits (one .state) inner (one .state-open) (marked (one .state) (one .reached)) in
       omega (arith, pick-cost-low (one .state) inner fits, facts .least, one .cost)
 
   pub above-tolerance : 1 ≤ C - p .tolerance
-  above-tolerance = omega (arith, least-high, formed .tolerance-high)
+  above-tolerance = omega (arith, least-a-second, formed .tolerance-high)
 
-  whole : C - p .tolerance + p .tolerance ≡ C
-  whole = omega (arith, above-tolerance)
+  tolerance-back : C - p .tolerance + p .tolerance ≡ C
+  tolerance-back = omega (arith, above-tolerance)
 
   -- the cover's demand at a reached state that is no goal
   module _ (s : ℕ) (reached : Reached p picks s) (other : p .goal s ≡ false) where
@@ -124,13 +124,14 @@ module _ (p : Problem) (formed : WellFormed p) (v picks : ℕ → ℕ) (C : ℕ)
         let sum = weightedSum (p .outcomes r) v in
         let bound =
         row-close weightTotal (C - p .tolerance) (p .tolerance) (rowTicks p r) (v s) (rowValue p v r) sum (rowValue-high p r v)
-        (omega (arith, formed .tolerance-low)) (omega (arith, whole)) in
-        (own, leads own, rw (weightedSum-scale (p .outcomes r) v C) (rw whole at bound))
+        (omega (arith, formed .tolerance-low)) (omega (arith, tolerance-back)) in
+        (own, leads own, rw (weightedSum-scale (p .outcomes r) v C) (rw tolerance-back at bound))
 
     give-covers : giveUpCost p ≤ v s + p .tolerance - 1 → C ≤ giveUpCost p → (C - p .tolerance) * giveUpCost p ≤ C * v s
     give-covers near cheap =
-        rw whole at
-        (give-close (C - p .tolerance) (p .tolerance) (giveUpCost p) (v s) (omega (arith, formed .tolerance-low)) (omega (arith, whole)))
+        rw tolerance-back at
+        (give-close (C - p .tolerance) (p .tolerance) (giveUpCost p) (v s) (omega (arith, formed .tolerance-low))
+        (omega (arith, tolerance-back)))
 
     choice-covers
         : (b own : Bool) → eqb (picks s) giveUp ≡ b → ownRow p s (picks s) ≡ own → pickValueOn b p v (picks s) ≤ v s + p .tolerance - 1
@@ -153,35 +154,35 @@ module _ (p : Problem) (formed : WellFormed p) (v picks : ℕ → ℕ) (C : ℕ)
 -- Demand 3 of tables that the questions 16 to 19 accept, and of the audit.
 
 module _ (p : Problem) (formed : WellFormed p) (v picks : ℕ → ℕ) (C : ℕ) (said : tableQuestions p v picks ≡ accepted C) where
-  pub closeness-lower : (K : ℕ) → 1 ≤ K → (plan : ℕ → Choice) (u : ℕ → ℕ) (set : ℕ → Type 0) → Cover p K plan u set
+  pub table-lower : (K : ℕ) → 1 ≤ K → (plan : ℕ → Choice) (u : ℕ → ℕ) (set : ℕ → Type 0) → Cover p K plan u set
       → K * v (p .start) ≤ u (p .start)
-  closeness-lower K some plan u set cover =
+  table-lower K some plan u set cover =
       let facts = accepts p v picks C said in
       cover-high p formed v (facts .goal-zero) (accepted-high p v picks C facts) (facts .no-undercut) K some plan u set cover (p .start)
       (cover .start)
 
-  pub closeness-upper : Cover p (C - p .tolerance) (planOf p picks) (λ s. C * v s) (Reached p picks)
-  closeness-upper = accepted-cover p formed v picks C (accepts p v picks C said)
+  pub table-upper : Cover p (C - p .tolerance) (planOf p picks) (λ s. C * v s) (Reached p picks)
+  table-upper = accepted-cover p formed v picks C (accepts p v picks C said)
 
-  pub closeness-positive : 1 ≤ C - p .tolerance
-  closeness-positive = above-tolerance p formed v picks C (accepts p v picks C said)
+  pub table-positive : 1 ≤ C - p .tolerance
+  table-positive = above-tolerance p formed v picks C (accepts p v picks C said)
 
-  pub closeness : Close p v picks C
-  closeness =
+  pub table-close : Close p v picks C
+  table-close =
       record {
-        lower = λ K some plan u inside. closeness-lower K some plan u (λ s. inside s ≡ true);
-        upper = closeness-upper;
-        positive = closeness-positive;
+        lower = λ K some plan u inside. table-lower K some plan u (λ s. inside s ≡ true);
+        upper = table-upper;
+        positive = table-positive;
       }
 
 module _ (f values picks : List ℕ) (C : ℕ) (said : audit f values picks ≡ accepted C) where
   pub audit-lower : (K : ℕ) → 1 ≤ K → (plan : ℕ → Choice) (u : ℕ → ℕ) (set : ℕ → Type 0) → Cover (problemOf f) K plan u set
-      → K * entry values (problemOf f .start) ≤ u (problemOf f .start)
+      → K * byState values (problemOf f .start) ≤ u (problemOf f .start)
   audit-lower =
-      closeness-lower (problemOf f) (audit-formed f values picks C said) (entry values) (entry picks) C
+      table-lower (problemOf f) (audit-formed f values picks C said) (byState values) (byState picks) C
       (audit-yes f values picks C said .table-accepted)
 
-  pub audit-close : Close (problemOf f) (entry values) (entry picks) C
+  pub audit-close : Close (problemOf f) (byState values) (byState picks) C
   audit-close =
-      closeness (problemOf f) (audit-formed f values picks C said) (entry values) (entry picks) C
+      table-close (problemOf f) (audit-formed f values picks C said) (byState values) (byState picks) C
       (audit-yes f values picks C said .table-accepted)

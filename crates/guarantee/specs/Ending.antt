@@ -8,10 +8,11 @@ use mathlib.Core.Bool.{Bool, true, false}
 use mathlib.Core.List.{List}
 use lib.ListN.{length}
 use Rattle.model.specs.Problem.{Problem}
-use Rattle.model.specs.Value.{entry}
+use Rattle.model.specs.Value.{byState}
 use Rattle.model.specs.Cover.{allowanceTo, allowance, openTo}
 use Rattle.model.specs.Rounds.{Machine, round, Ending, solved, runFrom, fillTo, machineStart, runOf}
-use Rattle.guarantee.specs.Formed.{WellFormed}
+use Rattle.model.specs.Promises.{roundsEnough}
+use Rattle.guarantee.specs.WellFormed.{WellFormed}
 use Rattle.guarantee.specs.Tables.{fill-entry}
 use Rattle.guarantee.specs.Sums.{sum-below}
 use Rattle.guarantee.specs.Sound.{Sound, start-sound}
@@ -56,7 +57,7 @@ unfolding leftAt
 left-at-same p d v w s same = rw same (omega arith)
 
 module _ (p : Problem) (d : ℕ) (values picks remembered : List ℕ) (long : p .states ≤ length values) where
-  start-left : left p d (entry (fillTo (p .estimate) values (p .states))) ≤ allowanceTo p d (p .states)
+  start-left : left p d (byState (fillTo (p .estimate) values (p .states))) ≤ allowanceTo p d (p .states)
   unfolding left
   start-left =
       rw (allowance-left p d (p .states))
@@ -67,7 +68,7 @@ module _ (p : Problem) (d : ℕ) (values picks remembered : List ℕ) (long : p 
   unfolding potential machineStart roundBound
   start-potential =
       let m = machineStart p values picks remembered in
-      omega (arith, mul-le-mul-right (openTo p (p .states) + 1) start-left, unsettled-high p (entry (m .values)) (entry (m .picks)))
+      omega (arith, mul-le-mul-right (openTo p (p .states) + 1) start-left, unsettled-high p (byState (m .values)) (byState (m .picks)))
 
 -- ending, for any tolerance of at least d ≥ 1
 module _ (p : Problem) (formed : WellFormed p) (values picks remembered : List ℕ)
@@ -84,7 +85,6 @@ module _ (p : Problem) (formed : WellFormed p) (values picks remembered : List �
 
   -- for the file's own tolerance: "the rise allowance A"
   pub solve-ends
-      : (budget : ℕ) → (allowance p + 1) * (openTo p (p .states) + 1) ≤ budget
-      → Solves ((allowance p + 1) * (openTo p (p .states) + 1)) (runOf p budget values picks remembered)
+      : (budget : ℕ) → roundsEnough p ≤ budget → Solves (roundsEnough p) (runOf p budget values picks remembered)
   unfolding allowance roundBound
   solve-ends budget room = start-ends (p .tolerance) (p .tolerance) budget (formed .tolerance-low) (omega arith) room

@@ -10,11 +10,11 @@ use lib.Dec.{leb, ltb, eqb}
 use lib.ListN.{getD}
 use borrow.Author.Tests.{eq-eqb}
 use Rattle.model.specs.Problem.{Problem, ownRow}
-use Rattle.model.specs.Value.{rowValue, entry}
+use Rattle.model.specs.Value.{rowValue, byState}
 use Rattle.model.specs.Walk.{walk}
 use Rattle.model.specs.Rounds.{Found, Machine, evaluateOn, considerOn, consider, considerIf, scanFrom, scan}
 use Rattle.model.specs.Rounds.{scanStart, settle, backup, backups, walked, round}
-use Rattle.guarantee.specs.Formed.{WellFormed}
+use Rattle.guarantee.specs.WellFormed.{WellFormed}
 use Rattle.guarantee.specs.Rows.{own-low, own-high}
 use Rattle.guarantee.specs.Graphs.{sumOver}
 use Rattle.guarantee.specs.Walks.{listed-rows}
@@ -83,7 +83,7 @@ module _ (p : Problem) (v : ℕ → ℕ) where
 module _ (p : Problem) (e : ℕ) where
   pub backup-count : (s : ℕ) (m : Machine) → Counted (m .evaluations) (backup p e s m .evaluations) (p .rowCount s)
   unfolding backup settle
-  backup-count s m = scan-count p (entry (m .values)) s (getD (m .picks) s 0) (scanStart p m)
+  backup-count s m = scan-count p (byState (m .values)) s (getD (m .picks) s 0) (scanStart p m)
 
   pub backups-count : (l : List ℕ) (m : Machine) → Counted (m .evaluations) (backups p e l m .evaluations) (sumOver (p .rowCount) l)
   unfolding backups sumOver
@@ -94,5 +94,5 @@ module _ (p : Problem) (e : ℕ) where
   pub round-count : WellFormed p → (m : Machine) → Counted (m .evaluations) (round p e m .evaluations) (p .rows)
   unfolding round
   round-count formed m =
-      let l = walk p (entry (m .picks)) .list in
-      omega (arith, backups-count l (walked p m), listed-rows p formed (entry (m .picks)))
+      let l = walk p (byState (m .picks)) .list in
+      omega (arith, backups-count l (walked p m), listed-rows p formed (byState (m .picks)))

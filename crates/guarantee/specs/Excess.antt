@@ -5,34 +5,26 @@ use Prim.Native.Nat.{ℕ, suc, _+_, _-_, _≤_, _<_}
 use native.Mathlib.Omega.{arith}
 use mathlib.Core.Bool.{Bool, true, false, _||_, not, true≢false}
 use mathlib.Core.List.{List}
-use lib.Dec.{leb, ltb, eqb}
+use lib.Dec.{leb}
 use lib.ListN.{length}
 use lib.IntN.{ℤ, pos, negsuc, subℕ}
 use borrow.Author.Tests.{leb-false, lt-ltb, le-ltb}
 use Rattle.model.specs.Problem.{Problem, endRow}
-use Rattle.model.specs.Bytes.{u16At}
-use Rattle.model.specs.Limits.{settingCount, maxStates, maxRows, maxOutcomes, maxTolerance, maxPenalty}
-use Rattle.model.specs.Sections.{problemOf, statesAt, rowsAt, outcomesAt, fileEnd, sectionEnd, outcomeCountOf}
-use Rattle.model.specs.Search.{first, sumTo}
-use Rattle.model.specs.Value.{rowValue, entry}
+use Rattle.model.specs.Sections.{problemOf}
+use Rattle.model.specs.Value.{rowValue, byState}
 use Rattle.model.specs.Walk.{walk}
-use Rattle.model.specs.Questions.{Verdict, passes, fails, _then_, ask, askEach, between, fileQuestions, layoutQuestions}
-use Rattle.model.specs.Questions.{sectionQuestions, endQuestion}
-use Rattle.model.specs.Questions.{settingQuestions, itemQuestions, stateQuestion, startQuestion, rowNumberQuestion, rowQuestion}
-use Rattle.model.specs.Questions.{outcomeNumberQuestion, outcomeQuestion, estimateQuestion, undercutState, undercutRow}
+use Rattle.model.specs.Questions.{Verdict, passes, fails, fileQuestions}
+use Rattle.model.specs.Questions.{undercutState, undercutRow}
 use Rattle.model.specs.Audit.{Audited, accepted, refused, orElse, open-state, pickValue, unboundedState, strayState, slackState}
 use Rattle.model.specs.Audit.{tableQuestions, problemAudit, auditOn, audit}
 use Rattle.model.specs.Promises.{ExcessFits}
 use Rattle.guarantee.specs.Searches.{first-at}
+use Rattle.guarantee.specs.Numbers.{early-file, early-number}
 use Rattle.guarantee.specs.WellFormed.{well-formed}
 
 -- an answer that carries such an excess where it refuses
 pub record Fitting (e : ℕ) (said : Audited) : Type 0 where
   pub fitting : (q i : ℕ) (z : ℤ) → said ≡ refused q i z → ExcessFits e q z
-
--- a verdict that has a number of at most 11 where it fails
-record Early (said : Verdict) : Type 0 where
-  early : (q i : ℕ) → said ≡ fails q i → q ≤ 11
 
 -- differences
 
@@ -64,56 +56,6 @@ fits-else : (e : ℕ) (b : Bool) (refusal next : Audited) → (b ≡ false → F
     → Fitting e (orElse b refusal next)
 fits-else e true refusal next if-no if-yes = if-yes refl
 fits-else e false refusal next if-no if-yes = if-no refl
-
--- questions 1 to 11 have numbers of at most 11
-
-early-ask : (q i : ℕ) (b : Bool) → q ≤ 11 → Early (ask q i b)
-early-ask q i true h = record { early = λ q′ i′ e. absurd (let z : _≡_ {A = ℕ} 0 1 = cc in omega arith) }
-early-ask q i false h = record { early = λ q′ i′ e. let same : q ≡ q′ = cc in omega arith }
-
-early-then : (v w : Verdict) → Early v → Early w → Early (v then w)
-early-then passes w a b = b
-early-then (fails q i) w a b = a
-
-early-section : (place i size low high : ℕ) (f : List ℕ) → Early (sectionQuestions place i size low high f)
-unfolding sectionQuestions
-early-section place i size low high f =
-    early-then _ _ (early-ask 1 _ (leb (i + 2) (length f)) (omega arith))
-    (early-then _ _ (early-ask 2 _ (between low high (u16At f i)) (omega arith))
-    (early-ask 1 _ (leb (sectionEnd size f i) (length f)) (omega arith)))
-
-early-layout : (f : List ℕ) → Early (layoutQuestions f)
-unfolding layoutQuestions endQuestion
-early-layout f =
-    early-then _ _ (early-section 0 0 4 settingCount settingCount f)
-    (early-then _ _ (early-section 1 (statesAt f) 6 1 maxStates f)
-    (early-then _ _ (early-section 2 (rowsAt f) 4 0 maxRows f)
-    (early-then _ _ (early-section 3 (outcomesAt f) 4 0 maxOutcomes f) (early-ask 3 _ (eqb (fileEnd f) (length f)) (omega arith)))))
-
-early-settings : (p : Problem) → Early (settingQuestions p)
-unfolding settingQuestions
-early-settings p =
-    early-then _ _ (early-ask 4 _ (ltb (p .start) (p .states)) (omega arith))
-    (early-then _ _ (early-ask 4 _ (between 1 maxTolerance (p .tolerance)) (omega arith))
-    (early-ask 4 _ (between 1 maxPenalty (p .penalty)) (omega arith)))
-
-early-each : (q n : ℕ) (ok : ℕ → Bool) → q ≤ 11 → Early (askEach q n ok)
-early-each q n ok = early-ask q (first ok 0 n) (leb n (first ok 0 n))
-
-early-items : (f : List ℕ) (p : Problem) → Early (itemQuestions f p)
-unfolding itemQuestions stateQuestion startQuestion rowNumberQuestion rowQuestion outcomeNumberQuestion outcomeQuestion estimateQuestion
-early-items f p =
-    early-then _ _ (early-each 5 (p .states) _ (omega arith))
-    (early-then _ _ (early-ask 6 _ (not (p .goal (p .start))) (omega arith))
-    (early-then _ _ (early-ask 7 _ (eqb (sumTo (p .rowCount) (p .states)) (p .rows)) (omega arith))
-    (early-then _ _ (early-each 8 (p .rows) _ (omega arith))
-    (early-then _ _ (early-ask 9 _ (eqb (sumTo (outcomeCountOf f) (p .rows)) (u16At f (outcomesAt f))) (omega arith))
-    (early-then _ _ (early-each 10 (p .rows) _ (omega arith))
-    (early-ask 11 _ (leb (p .states) (undercutState p (p .estimate))) (omega arith)))))))
-
-early-file : (f : List ℕ) → Early (fileQuestions f)
-unfolding fileQuestions
-early-file f = early-then _ _ (early-layout f) (early-then _ _ (early-settings (problemOf f)) (early-items f (problemOf f)))
 
 -- questions 17 and 19
 
@@ -172,7 +114,7 @@ audit-excess f values picks = step (fileQuestions f) refl .fitting
         fits-else _ (leb (problemOf f .states) (length values)) _ _ (λ n. elsewhere _ 15 _ (λ h. omega arith) (λ h. omega arith))
         λ y.
         fits-else _ (leb (problemOf f .states) (length picks)) _ _ (λ n. elsewhere _ 15 _ (λ h. omega arith) (λ h. omega arith))
-        λ y. table-excess (problemOf f) (entry values) (entry picks) (well-formed f e .tolerance-low)
+        λ y. table-excess (problemOf f) (byState values) (byState picks) (well-formed f e .tolerance-low)
     step (fails q i) e =
-        let low : q ≤ 11 = early-file f .early q i e in
+        let low : q ≤ 11 = early-number (early-file f) q i e in
         elsewhere _ q i (λ h. omega arith) (λ h. omega arith)

@@ -161,7 +161,7 @@ module _ (goal : ℕ → Bool) (next : ℕ → List ℕ) (n : ℕ) (set-of : ℕ
     pub weighs : (g : ℕ → ℕ) → sumOver g (w .list) ≤ sumTo g n
 
   -- a trail to visit from: a depth of at least the number of unmarked nodes is enough
-  pub record Ready (depth : ℕ) (w : Trail) : Type 0 where
+  pub record VisitReady (depth : ℕ) (w : Trail) : Type 0 where
     pub room : n ≤ length (w .marks)
     pub binary : (x : ℕ) → getD (w .marks) x 0 ≤ 1
     pub deep : unmarked each (w .marks) n ≤ depth
@@ -204,19 +204,19 @@ module _ (goal : ℕ → Bool) (next : ℕ → List ℕ) (n : ℕ) (set-of : ℕ
       }
 
   -- after a stretch a depth that was enough still is
-  pub ready-then : (d : ℕ) (w w′ : Trail) → Ready d w → Step w w′ → Ready d w′
+  pub ready-then : (d : ℕ) (w w′ : Trail) → VisitReady d w → Step w w′ → VisitReady d w′
   ready-then d w w′ r a =
       record { room = omega (arith, r .room, a .long); binary = a .binary; deep = omega (arith, r .deep, a .fewer each) }
 
   -- what visiting one node, or some, is to do
   abbrev pub Visits : ℕ → (ℕ → Trail → Trail) → Type 0
   Visits d visit =
-      (t : ℕ) (w : Trail) → set-of t → getD (w .marks) t 0 ≡ 0 → Ready d w
+      (t : ℕ) (w : Trail) → set-of t → getD (w .marks) t 0 ≡ 0 → VisitReady d w
       → Step w (visit t w) × (getD (visit t w .marks) t 0 ≡ 1)
 
   module _ (set-below : (s : ℕ) → set-of s → s < n) (along : (s t : ℕ) → set-of s → In t (next s) → set-of t) where
     pub outcomes-visited : (d : ℕ) (visit : ℕ → Trail → Trail) → Visits d visit → (ts : List ℕ) (w : Trail)
-        → ((t : ℕ) → In t ts → set-of t) → Ready d w
+        → ((t : ℕ) → In t ts → set-of t) → VisitReady d w
         → Step w (visitOutcomes visit ts w) × ((t : ℕ) → In t ts → getD (visitOutcomes visit ts w .marks) t 0 ≡ 1)
     unfolding visitOutcomes
     outcomes-visited d visit v [] w h r = (step-none w (r .binary), λ t i. absurd (in-nil i))
@@ -305,7 +305,7 @@ module _ (goal : ℕ → Bool) (next : ℕ → List ℕ) (n : ℕ) (set-of : ℕ
         absurd (omega (arith, r .deep, unmarked-holds each (w .marks) s n inside (set-below s mine) clear))
     state-visited (suc d) s w mine clear r =
         let inside : s < length (w .marks) = omega (arith, set-below s mine, r .room) in
-        let ready : Ready d (mark s w) = record {
+        let ready : VisitReady d (mark s w) = record {
           room = omega (arith, r .room, length-set (w .marks) s 1);
           binary = set-entry (λ j m. m ≤ 1) (w .marks) s 1 inside (λ j ne. r .binary j) (omega arith);
           deep = omega (arith, r .deep, unmarked-mark each (w .marks) s n inside (set-below s mine) clear);
@@ -313,7 +313,7 @@ module _ (goal : ℕ → Bool) (next : ℕ → List ℕ) (n : ℕ) (set-of : ℕ
         let outs = outcomes-visited d (visitState goal next d) (state-visited d) (next s) (mark s w) (λ t i. along s t mine i) ready in
         joined s w _ mine clear (r .room) (outs .0) (outs .1) (goal s) refl
 
-    pub ready-clear : (m : ℕ) → n ≤ m → Ready m (record { marks = replicate m 0; list = [] })
+    pub ready-clear : (m : ℕ) → n ≤ m → VisitReady m (record { marks = replicate m 0; list = [] })
     ready-clear m h =
         record {
           room = omega (arith, length-replicate {A = ℕ} m 0);

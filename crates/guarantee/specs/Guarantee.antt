@@ -1,28 +1,36 @@
--- What is promised of document 01's rules: each sentence of the demands is quoted over the theorem that it is. Nothing has to be believed
--- but the model; `Met` below, and `Accepts` and `machineOf` of other files, are all that the statements add. A proof is a line that cites.
-use mathlib.Core.Path.{_≡_}
+-- What is promised of document 01's rules: each sentence is quoted over the theorem that it is, and a proof is a line that cites. Nothing
+-- has to be believed but the model; the statements add `Met` below, and `Accepts`, `Allowed`, `Beyond` and `machineOf` of other files.
+use mathlib.Core.Path.{_≡_, _∙_}
 use Prim.Native.Nat.{ℕ, _+_, _-_, _*_, _≤_, _<_}
 use mathlib.Core.Bool.{true, false}
-use mathlib.Core.Logic.{_↔_}
+use mathlib.Core.Logic.{_⊎_, _↔_}
 use mathlib.Core.List.{List, [], _∷_}
+use lib.IntN.{ℤ}
 use lib.ListN.{getD, length}
-use Rattle.model.specs.Problem.{Problem, giveUpCost}
-use Rattle.model.specs.Value.{entry, rowValue}
+use Rattle.model.specs.Limits.{maxBudget, giveUp, noPick}
+use Rattle.model.specs.Problem.{Problem, giveUpCost, ownRow}
+use Rattle.model.specs.Value.{byState, rowValue}
 use Rattle.model.specs.Sections.{problemOf}
 use Rattle.model.specs.Questions.{passes, fails, _then_, fileQuestions}
-use Rattle.model.specs.Walk.{In, walk, Reached}
+use Rattle.model.specs.Walk.{In, walk, Reached, pickCost, leastCost}
 use Rattle.model.specs.Rounds.{Machine, scanOf, backup, backups, walked, round, machineStart, runOf, bellman}
-use Rattle.model.specs.Solution.{Tables, solved, refused, solveQuestions, solution}
-use Rattle.model.specs.Audit.{accepted, audit}
-use Rattle.model.specs.Cover.{Choice, Cover, planOf, allowance, openTo}
+use Rattle.model.specs.Solution.{fine, Tables, solved, spent, refused, solutionOf, solveQuestions, solution}
+use Rattle.model.specs.Audit.{accepted, refused as audit-refused, audit}
+use Rattle.model.specs.Cover.{Choice, Cover, planOf}
+use Rattle.model.specs.Promises.{roundsEnough}
 use Rattle.guarantee.specs.WellFormed.{well-formed}
 use Rattle.guarantee.specs.Walks.{reached-marked, walk-whole, listed-reached, listed-open, reached-listed, listed-places}
-use Rattle.guarantee.specs.Accepted.{Accepts, audit-exactly}
+use Rattle.guarantee.specs.Walks.{least-low, least-cheapest}
+use Rattle.guarantee.specs.Accepted.{Accepts, audit-exactly, audit-table}
 use Rattle.guarantee.specs.Closeness.{audit-lower, audit-close}
-use Rattle.guarantee.specs.Sound.{best-is-bellman, values-rise as backup-rises}
+use Rattle.guarantee.specs.Sound.{Allowed, best-is-bellman, backup-rises}
 use Rattle.guarantee.specs.Backups.{machineOf, run-keeps}
+use Rattle.guarantee.specs.Allowances.{rounds-enough-fit}
+use Rattle.guarantee.specs.Beyond.{Beyond, solution-beyond}
+use Rattle.guarantee.specs.Hollow.{table-too-dear}
 use Rattle.guarantee.specs.Underway.{Underway, turn-open, underway-start, underway-walked, underway-backup, scan-any-memory}
-use Rattle.guarantee.specs.Solutions.{lent-sound, solution-ends, refused-by, never-fourteen, answer-accepted}
+use Rattle.guarantee.specs.Solutions.{lent-sound, solution-run, solution-ends, spent-budget, refused-by}
+use Rattle.guarantee.specs.Solutions.{never-fourteen, answer-accepted}
 
 -- Demand 3: "Take any file, table V and plan that the audit accepts; e is the file's tolerance and C the least cost on the plan, both in
 -- ticks."
@@ -30,13 +38,13 @@ module _ (f values picks : List ℕ) (C : ℕ) (said : audit f values picks ≡ 
   -- "For every whole K of at least 1, every cover, in K-ths of a tick, of every plan for that file has at the start at least K × V(start)."
   pub closeness-lower
       : (K : ℕ) → 1 ≤ K → (plan : ℕ → Choice) (u : ℕ → ℕ) (set : ℕ → Type 0) → Cover (problemOf f) K plan u set
-      → K * entry values (problemOf f .start) ≤ u (problemOf f .start)
+      → K * byState values (problemOf f .start) ≤ u (problemOf f .start)
   closeness-lower = audit-lower f values picks C said
 
   -- "And C × V covers the accepted plan in (C − e)-ths."
   pub closeness-upper
-      : Cover (problemOf f) (C - problemOf f .tolerance) (planOf (problemOf f) (entry picks)) (λ s. C * entry values s)
-      (Reached (problemOf f) (entry picks))
+      : Cover (problemOf f) (C - problemOf f .tolerance) (planOf (problemOf f) (byState picks)) (λ s. C * byState values s)
+      (Reached (problemOf f) (byState picks))
   closeness-upper = audit-close f values picks C said .upper
 
   -- these are no empty words: C is above e
@@ -48,18 +56,54 @@ pub exactly
     : (f values picks : List ℕ) (C : ℕ)
     → (audit f values picks ≡ accepted C)
     ↔ ((fileQuestions f ≡ passes) × (problemOf f .states ≤ length values) × (problemOf f .states ≤ length picks)
-    × Accepts (problemOf f) (entry values) (entry picks) C)
+    × Accepts (problemOf f) (byState values) (byState picks) C)
 exactly = audit-exactly
+
+-- Document 01: "Giving up in every state: .. the audit under 17 or 19 where a row at the start is cheaper by e or more under that table."
+-- It is enough that the start's pick gives up; the table is one that question 16 lets through
+pub giving-up-refused
+    : (f values picks : List ℕ) → fileQuestions f ≡ passes → problemOf f .states ≤ length values → problemOf f .states ≤ length picks
+    → ((s : ℕ) → s < problemOf f .states → problemOf f .goal s ≡ true → byState values s ≡ 0)
+    → ((s : ℕ) → s < problemOf f .states → problemOf f .goal s ≡ false → byState values s ≤ giveUpCost (problemOf f))
+    → byState picks (problemOf f .start) ≡ giveUp
+    → (r : ℕ) → ownRow (problemOf f) (problemOf f .start) r ≡ true
+    → rowValue (problemOf f) (byState values) r + problemOf f .tolerance ≤ giveUpCost (problemOf f)
+    → (q : ℕ) × (i : ℕ) × (excess : ℤ) × (audit f values picks ≡ audit-refused q i excess) × ((q ≡ 17) ⊎ (q ≡ 19))
+giving-up-refused f values picks file values-long picks-long zeros high gives r own cheaper =
+    let dear = table-too-dear (problemOf f) (well-formed f file) (byState values) (byState picks) gives zeros high r own cheaper in
+    (dear .question, dear .place, dear .excess, audit-table f values picks file values-long picks-long ∙ dear .refusal, dear .number)
+
+-- Demand 2: "A solved or spent run equals, in values, moves and counts, the rounds of document 01": what is handed back is that of `runOf`,
+-- the rounds with no check of question 14
+pub runs-the-rounds
+    : (f : List ℕ) (budget : ℕ) (t : Tables) → fileQuestions f ≡ passes → solveQuestions (problemOf f) budget t ≡ passes
+    → solution f budget t
+    ≡ solutionOf (problemOf f) (t .walk-list) (fine (runOf (problemOf f) budget (t .values) (t .picks) (t .remembered)))
+runs-the-rounds = solution-run
+
+-- "If the budget is reached first, the run is spent.": none says so before it has done every round of its budget
+pub spent-late
+    : (f : List ℕ) (budget : ℕ) (t : Tables) (rounds evaluations : ℕ) → solution f budget t .answer ≡ spent rounds evaluations
+    → rounds ≡ budget
+spent-late = spent-budget
+
+-- "in every table entries beyond stay": those of `Beyond`, however the call ends
+pub beyond-stays : (f : List ℕ) (budget : ℕ) (t : Tables) → Beyond (problemOf f) t (solution f budget t .tables)
+beyond-stays = solution-beyond
 
 -- Demand 3: "Whatever the file and the lent tables hold, if questions 1 to 13 say yes, a run of the rounds of document 01 given at least
 -- (A + 1) × (n + 1) rounds ends solved, A being the file's rise allowance and n the number of its states that aren't goals."
 pub ending
     : (f : List ℕ) (budget : ℕ) (t : Tables) → fileQuestions f ≡ passes → solveQuestions (problemOf f) budget t ≡ passes
-    → (allowance (problemOf f) + 1) * (openTo (problemOf f) (problemOf f .states) + 1) ≤ budget
+    → roundsEnough (problemOf f) ≤ budget
     → (rounds : ℕ) × (evaluations : ℕ) × (C : ℕ) × (solution f budget t .answer ≡ solved rounds evaluations C)
-    × (rounds ≤ (allowance (problemOf f) + 1) * (openTo (problemOf f) (problemOf f .states) + 1))
+    × (rounds ≤ roundsEnough (problemOf f))
 ending f budget t file lent room =
     let run = solution-ends f budget t file lent room in (run .rounds, run .evaluations, run .least, run .ends, run .within)
+
+-- so many rounds may always be asked for: question 13 lets them through
+pub rounds-fit : (f : List ℕ) → fileQuestions f ≡ passes → roundsEnough (problemOf f) ≤ maxBudget
+rounds-fit f file = rounds-enough-fit (problemOf f) (well-formed f file)
 
 -- Demand 3: "Whenever a run of these rounds ends solved, at whatever budget, the audit accepts that file with the values and picks the run
 -- left, and gives the run's C."
@@ -82,7 +126,7 @@ never-overflows = never-fourteen
 -- after the walk of a round, with the whole list; after the backup of the state whose turn it is, with the states behind it.
 pub data Met (p : Problem) (t : Tables) : List ℕ → Machine → Type 0 where
   starts : Met p t [] (machineStart p (t .values) (t .picks) (t .remembered))
-  walks : {m : Machine} → Met p t [] m → Met p t (walk p (entry (m .picks)) .list) (walked p m)
+  walks : {m : Machine} → Met p t [] m → Met p t (walk p (byState (m .picks)) .list) (walked p m)
   backs-up : {s : ℕ} {rest : List ℕ} {m : Machine} → Met p t (s ∷ rest) m → Met p t rest (backup p (p .tolerance) s m)
 
 backups-met : (p : Problem) (t : Tables) (l : List ℕ) (m : Machine) → Met p t l m → Met p t [] (backups p (p .tolerance) l m)
@@ -92,7 +136,7 @@ backups-met p t (s ∷ l) m met = backups-met p t l (backup p (p .tolerance) s m
 
 round-met : (p : Problem) (t : Tables) (m : Machine) → Met p t [] m → Met p t [] (round p (p .tolerance) m)
 unfolding round
-round-met p t m met = backups-met p t (walk p (entry (m .picks)) .list) (walked p m) (walks met)
+round-met p t m met = backups-met p t (walk p (byState (m .picks)) .list) (walked p m) (walks met)
 
 -- whatever the budget, and so after each round, the run's machine is met
 pub run-met : (p : Problem) (t : Tables) (budget : ℕ) → Met p t [] (machineOf (runOf p budget (t .values) (t .picks) (t .remembered)))
@@ -111,14 +155,14 @@ module _ (f : List ℕ) (budget : ℕ) (t : Tables) (file : fileQuestions f ≡ 
   -- a backup is document 000's definition 4 under the values of that moment, with giving up as one more choice
   pub built-on-bellman
       : {s : ℕ} {rest : List ℕ} {m : Machine} → Met (problemOf f) t (s ∷ rest) m
-      → scanOf (problemOf f) s m .best ≡ bellman (problemOf f) (entry (m .values)) s
+      → scanOf (problemOf f) s m .best ≡ bellman (problemOf f) (byState (m .values)) s
   built-on-bellman {s = s} {m = m} met =
       best-is-bellman (problemOf f) (well-formed f file) s m (turn-open (underway met) .state) (underway met .sound)
 
   -- remembered values never exceed row values
   pub remembered-low
       : {rest : List ℕ} {m : Machine} → Met (problemOf f) t rest m → (r : ℕ) → r < problemOf f .rows
-      → getD (m .remembered) r 0 ≤ rowValue (problemOf f) (entry (m .values)) r
+      → getD (m .remembered) r 0 ≤ rowValue (problemOf f) (byState (m .values)) r
   remembered-low met = underway met .sound .memory
 
   -- a skipped row would not have been picked: by any other memory that is at most the row values, such as one of zeros, by which no row is
@@ -126,7 +170,7 @@ module _ (f : List ℕ) (budget : ℕ) (t : Tables) (file : fileQuestions f ≡ 
   pub skipped-not-picked
       : {s : ℕ} {rest : List ℕ} {m : Machine} → Met (problemOf f) t (s ∷ rest) m → (m′ : Machine)
       → m′ .values ≡ m .values → m′ .picks ≡ m .picks
-      → ((r : ℕ) → r < problemOf f .rows → getD (m′ .remembered) r 0 ≤ rowValue (problemOf f) (entry (m .values)) r)
+      → ((r : ℕ) → r < problemOf f .rows → getD (m′ .remembered) r 0 ≤ rowValue (problemOf f) (byState (m .values)) r)
       → (scanOf (problemOf f) s m′ .best ≡ scanOf (problemOf f) s m .best)
       × (scanOf (problemOf f) s m′ .pick ≡ scanOf (problemOf f) s m .pick)
   skipped-not-picked {s = s} {m = m} met m′ =
@@ -145,7 +189,18 @@ module _ (f : List ℕ) (budget : ℕ) (t : Tables) (file : fileQuestions f ≡ 
       → getD (m .values) s 0 ≤ giveUpCost (problemOf f)
   values-high met = underway met .sound .high
 
--- The walk of a file that passes questions 1 to 11, under any picks.
+  -- "picks (16 bits: row number, 65,535 giving up, 65,534 no pick, also at goals)": a row number is that of one of the state's own rows
+  pub picks-held
+      : {rest : List ℕ} {m : Machine} → Met (problemOf f) t rest m → (s : ℕ) → s < problemOf f .states
+      → Allowed (problemOf f) s (getD (m .picks) s 0)
+  picks-held met = underway met .sound .picked
+
+  pub goals-unpicked
+      : {rest : List ℕ} {m : Machine} → Met (problemOf f) t rest m → (s : ℕ) → s < problemOf f .states → problemOf f .goal s ≡ true
+      → getD (m .picks) s 0 ≡ noPick
+  goals-unpicked met = underway met .sound .goal-picks
+
+-- The walk of a file that passes questions 1 to 11, and C, under any picks.
 module _ (f : List ℕ) (picks : ℕ → ℕ) (file : fileQuestions f ≡ passes) where
   -- the marks are the reached states
   pub marks-are-reached : (s : ℕ) → (getD (walk (problemOf f) picks .marks) s 0 ≡ 1) ↔ Reached (problemOf f) picks s
@@ -164,3 +219,15 @@ module _ (f : List ℕ) (picks : ℕ → ℕ) (file : fileQuestions f ≡ passes
       : (i j : ℕ) → i < length (walk (problemOf f) picks .list) → j < length (walk (problemOf f) picks .list)
       → getD (walk (problemOf f) picks .list) i 0 ≡ getD (walk (problemOf f) picks .list) j 0 → i ≡ j
   list-holds-once = listed-places (problemOf f) (well-formed f file) picks
+
+  -- "C is the least of 1000 × c or 1000 × D over the picks at reached states that aren't goals": at most each of them, and one of them
+  pub least-at-most
+      : (s : ℕ) → Reached (problemOf f) picks s → problemOf f .goal s ≡ false
+      → leastCost (problemOf f) picks ≤ pickCost (problemOf f) picks s
+  least-at-most = least-low (problemOf f) (well-formed f file) picks
+
+  pub least-is-one
+      : (s : ℕ) × Reached (problemOf f) picks s × (problemOf f .goal s ≡ false)
+      × (leastCost (problemOf f) picks ≡ pickCost (problemOf f) picks s)
+  least-is-one =
+      let one = least-cheapest (problemOf f) (well-formed f file) picks in (one .state, one .reached, one .state-open, one .cost)

@@ -4,27 +4,31 @@ use mathlib.Core.Path.{_≡_, refl, ap}
 use Prim.Native.Nat.{ℕ, _+_, _*_, _≤_}
 use native.Mathlib.Omega.{arith}
 use mathlib.Core.List.{[], _∷_}
+use mathlib.Core.Logic.{_⊎_}
+use lib.IntN.{ℤ}
+use lib.ListN.{replicate}
 use Rattle.model.specs.Bytes.{u16At, u32At}
-use borrow.Author.Tests.{le-leb}
-use Rattle.model.specs.Limits.{maxBudget}
+use borrow.Author.Tests.{leb-true, le-leb}
+use Rattle.model.specs.Limits.{maxBudget, planRounds, giveUp}
 use Rattle.model.specs.Cases.{fileP, valuesP, picksP, lent, planned, cases-hold, others-hold}
-use Rattle.model.specs.Problem.{Problem}
+use Rattle.model.specs.Problem.{Problem, giveUpCost}
 use Rattle.model.specs.Search.{sumTo}
-use Rattle.model.specs.Value.{entry}
-use Rattle.model.specs.Sections.{statesAt, rowsAt, problemOf}
+use Rattle.model.specs.Value.{byState, rowValue, weightedSum}
+use Rattle.model.specs.Sections.{statesAt, rowsAt, outcomesAt, outcomesFrom, secondsOn, problemOf}
 use Rattle.model.specs.Questions.{passes, fileQuestions}
-use Rattle.model.specs.Walk.{Reached, visitOutcomes, visitState, next, walk}
-use Rattle.model.specs.Rounds.{Machine, fillTo, machineStart, walked, scanOf, bellman}
-use Rattle.model.specs.Solution.{Tables, solved, refused, solveQuestions, solution}
-use Rattle.model.specs.Audit.{accepted, audit}
+use Rattle.model.specs.Walk.{Reached, at-start, visitOutcomes, visitState, next, walk, pickCost, leastCost}
+use Rattle.model.specs.Rounds.{Machine, fillTo, machineStart, walked, runFrom, runOf, scanOf, bellman}
+use Rattle.model.specs.Solution.{fine, Tables, solved, spent, refused, solutionOf, solveQuestions, solution}
+use Rattle.model.specs.Audit.{accepted, refused as audit-refused, audit}
 use Rattle.model.specs.Cover.{Choice, Cover, planOf, allowance, allowanceTo, openTo}
-use Rattle.model.specs.Promises.{Close}
-use Rattle.guarantee.specs.Formed.{WellFormed}
+use Rattle.model.specs.Promises.{Close, roundsEnough}
+use Rattle.guarantee.specs.WellFormed.{WellFormed, Laid, well-formed, laid}
 use Rattle.guarantee.specs.Searches.{yes-ask}
-use Rattle.guarantee.specs.WellFormed.{Laid, well-formed, laid}
+use Rattle.guarantee.specs.Accepted.{audit-accepts}
 use Rattle.guarantee.specs.Closeness.{audit-close}
 use Rattle.guarantee.specs.Solutions.{solution-refused}
 use Rattle.guarantee.specs.Guarantee.{closeness-lower, ending, acceptance, Met, starts, walks, built-on-bellman}
+use Rattle.guarantee.specs.Guarantee.{runs-the-rounds, rounds-fit, giving-up-refused, least-at-most}
 
 abbrev pub problemP : Problem
 problemP = problemOf fileP
@@ -46,23 +50,41 @@ p-formed = well-formed fileP p-passes
 pub p-laid : Laid fileP
 p-laid = laid fileP p-passes
 
-pub p-close : Close problemP (entry valuesP) (entry picksP) 100000
+pub p-close : Close problemP (byState valuesP) (byState picksP) 100000
 p-close = audit-close fileP valuesP picksP 100000 p-accepted
 
 -- the accepted plan and its cover, in 99,999ths of a tick
 abbrev pub planP : ℕ → Choice
-planP = planOf problemP (entry picksP)
+planP = planOf problemP (byState picksP)
 
 abbrev pub coverP : ℕ → ℕ
-coverP = λ s. 100000 * entry valuesP s
+coverP = λ s. 100000 * byState valuesP s
 
-pub p-cover : Cover problemP 99999 planP coverP (Reached problemP (entry picksP))
+pub p-cover : Cover problemP 99999 planP coverP (Reached problemP (byState picksP))
 unfolding problemOf u16At u32At
 p-cover = p-close .upper
 
 -- no cover in 99,999ths lies below the answer, this one included
-pub p-bound : 99999 * entry valuesP (problemP .start) ≤ coverP (problemP .start)
-p-bound = closeness-lower fileP valuesP picksP 100000 p-accepted 99999 (omega arith) planP coverP (Reached problemP (entry picksP)) p-cover
+pub p-bound : 99999 * byState valuesP (problemP .start) ≤ coverP (problemP .start)
+p-bound = closeness-lower fileP valuesP picksP 100000 p-accepted 99999 (omega arith) planP coverP (Reached problemP (byState picksP)) p-cover
+
+-- C, 100,000, is the cost of row 0, the start's pick, and the other reached state's pick costs more
+pub p-least : leastCost problemP (byState picksP) ≤ pickCost problemP (byState picksP) 0
+unfolding problemOf statesAt u16At u32At
+p-least = least-at-most fileP (byState picksP) p-passes 0 at-start refl
+
+-- P's values with a plan that gives up everywhere: row 0 costs 370,000 at the start and giving up 5,000,000, so the audit refuses
+pub p-cheaper : rowValue problemP (byState valuesP) 0 + problemP .tolerance ≤ giveUpCost problemP
+unfolding problemOf statesAt rowsAt outcomesAt outcomesFrom secondsOn sumTo u16At u32At rowValue weightedSum
+p-cheaper = leb-true _ _ refl
+
+pub p-gives-up
+    : (q : ℕ) × (i : ℕ) × (excess : ℤ) × (audit fileP valuesP (replicate 3 giveUp) ≡ audit-refused q i excess) × ((q ≡ 17) ⊎ (q ≡ 19))
+unfolding problemOf statesAt rowsAt sumTo u16At u32At
+p-gives-up =
+    let facts = audit-accepts fileP valuesP picksP 100000 p-accepted in
+    giving-up-refused fileP valuesP (replicate 3 giveUp) p-passes (omega arith) (omega arith) (facts .goal-zero) (facts .value-high) refl
+    0 refl p-cheaper
 
 -- A is 10,000,000 and n is 2, so that 30,000,003 rounds are enough
 pub p-allowance : allowance problemP ≡ 10000000
@@ -73,12 +95,27 @@ pub p-open : openTo problemP (problemP .states) ≡ 2
 unfolding openTo problemOf statesAt u16At u32At
 p-open = refl
 
-pub p-rounds : (allowance problemP + 1) * (openTo problemP (problemP .states) + 1) ≡ 30000003
+pub p-rounds : roundsEnough problemP ≡ 30000003
 p-rounds = rw (p-allowance, p-open)
+
+-- and so many may be asked for
+pub p-rounds-fit : 30000003 ≤ maxBudget
+p-rounds-fit = rw p-rounds at (rounds-fit fileP p-passes)
 
 pub p-lent : (budget : ℕ) → budget ≤ maxBudget → solveQuestions problemP budget (lent 3) ≡ passes
 unfolding solveQuestions problemOf statesAt rowsAt u16At u32At
 p-lent budget l = yes-ask 13 0 (le-leb budget maxBudget l)
+
+pub p-runs
+    : (budget : ℕ) → budget ≤ maxBudget
+    → solution fileP budget (lent 3)
+    ≡ solutionOf problemP (lent 3 .walk-list) (fine (runOf problemP budget (lent 3 .values) (lent 3 .picks) (lent 3 .remembered)))
+p-runs budget l = runs-the-rounds fileP budget (lent 3) p-passes (p-lent budget l)
+
+-- "Budget 0 is spent with the first state"
+pub p-spent : solution fileP 0 (lent 3) .answer ≡ spent 0 0
+unfolding solutionOf runFrom machineStart
+p-spent = ap (λ a. a .answer) (p-runs 0 (omega arith))
 
 pub p-ends
     : (rounds : ℕ) × (evaluations : ℕ) × (C : ℕ) × (solution fileP 30000003 (lent 3) .answer ≡ solved rounds evaluations C)
@@ -87,7 +124,7 @@ p-ends = rw p-rounds at (ending fileP 30000003 (lent 3) p-passes (p-lent 3000000
 
 -- with the budget of `plan`, which is less, P is solved too, and what is left is accepted
 pub p-acceptance : audit fileP (planned fileP 3 .tables .values) (planned fileP 3 .tables .picks) ≡ accepted 100000
-p-acceptance = acceptance fileP 1000000 (lent 3) 3 5 100000 p-solved
+p-acceptance = acceptance fileP planRounds (lent 3) 3 5 100000 p-solved
 
 -- P's first round meets a backup of the start, the only state of the first walk
 abbrev pub firstP : Machine
@@ -97,8 +134,8 @@ pub p-met : Met problemP (lent 3) (0 ∷ []) firstP
 unfolding walk visitState visitOutcomes next machineStart fillTo problemOf statesAt rowsAt sumTo u16At u32At
 p-met = walks starts
 
-pub p-bellman : scanOf problemP 0 firstP .best ≡ bellman problemP (entry (firstP .values)) 0
-p-bellman = built-on-bellman fileP 1000000 (lent 3) p-passes (p-lent 1000000 (omega arith)) p-met
+pub p-bellman : scanOf problemP 0 firstP .best ≡ bellman problemP (byState (firstP .values)) 0
+p-bellman = built-on-bellman fileP planRounds (lent 3) p-passes (p-lent planRounds (omega arith)) p-met
 
 -- a refusal: "Empty file: 1, place 0"
 pub empty-refused : (budget : ℕ) (t : Tables) → solution [] budget t .answer ≡ refused 1 0

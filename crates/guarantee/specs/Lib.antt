@@ -1,5 +1,5 @@
 -- Theorems about the model: what document 01's rules lead to. Nothing here has to be believed.
-pub mod Formed
+pub mod Answers
 pub mod Values
 pub mod Searches
 pub mod Undercuts
@@ -22,12 +22,14 @@ pub mod Sums
 pub mod Potential
 pub mod Ending
 pub mod Solved
-pub mod Counted
 pub mod Loops
 pub mod Parts
 pub mod Undercutting
 pub mod Numbers
+pub mod Allowances
 pub mod Solutions
+pub mod Hollow
+pub mod Beyond
 pub mod Underway
 pub mod Guarantee
 pub mod Instances

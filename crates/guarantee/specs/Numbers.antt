@@ -1,7 +1,7 @@
--- Questions 1 to 13 carry the numbers 1 to 13, so none of them is answered no under the number 14.
+-- Questions 1 to 11 carry the numbers 1 to 11, and questions 1 to 13 the numbers 1 to 13: no later number comes from them.
 -- A chain of questions has no later number than its parts; each part says its number.
 use mathlib.Core.Path.{_≡_}
-use Prim.Native.Nat.{ℕ, _+_, _<_}
+use Prim.Native.Nat.{ℕ, _+_, _≤_}
 use native.Mathlib.Omega.{arith}
 use mathlib.Core.Bool.{Bool, true, false, _&&_, not}
 use mathlib.Core.List.{List}
@@ -20,30 +20,38 @@ use Rattle.model.specs.Questions.{outcomeNumberQuestion, outcomesObey, outcomeQ
 use Rattle.model.specs.Questions.{fileQuestions}
 use Rattle.model.specs.Solution.{Tables, solveQuestions}
 
--- a verdict that passes, or fails under a number below 14
-pub data Early : Verdict → Type 0 where
-  passed : Early passes
-  failed : {q i : ℕ} → q < 14 → Early (fails q i)
+-- a verdict that passes, or fails under a number of at most `last`
+pub data Early (last : ℕ) : Verdict → Type 0 where
+  passed : Early last passes
+  failed : {q i : ℕ} → q ≤ last → Early last (fails q i)
 
-early-then : {v w : Verdict} → Early v → Early w → Early (v then w)
+pub early-number : {last : ℕ} {v : Verdict} → Early last v → (q i : ℕ) → v ≡ fails q i → q ≤ last
+early-number passed q i e = let z : _≡_ {A = ℕ} 0 1 = cc in absurd (omega arith)
+early-number (failed {q = n} l) q i e = let same : n ≡ q = cc in omega arith
+
+later : {last more : ℕ} {v : Verdict} → last ≤ more → Early last v → Early more v
+later h passed = passed
+later h (failed {q = q} l) = failed {q = q} (omega arith)
+
+early-then : {last : ℕ} {v w : Verdict} → Early last v → Early last w → Early last (v then w)
 early-then passed b = b
 early-then (failed l) b = failed l
 
-early-ask : (q i : ℕ) (b : Bool) → q < 14 → Early (ask q i b)
+early-ask : {last : ℕ} (q i : ℕ) (b : Bool) → q ≤ last → Early last (ask q i b)
 early-ask q i true l = passed
 early-ask q i false l = failed l
 
-early-each : (q n : ℕ) (ok : ℕ → Bool) → q < 14 → Early (askEach q n ok)
+early-each : {last : ℕ} (q n : ℕ) (ok : ℕ → Bool) → q ≤ last → Early last (askEach q n ok)
 early-each q n ok = early-ask q (first ok 0 n) (leb n (first ok 0 n))
 
-early-section : (place i size low high : ℕ) (f : List ℕ) → Early (sectionQuestions place i size low high f)
+early-section : (place i size low high : ℕ) (f : List ℕ) → Early 11 (sectionQuestions place i size low high f)
 unfolding sectionQuestions
 early-section place i size low high f =
     early-then (early-ask 1 place (leb (i + 2) (length f)) (omega arith))
     (early-then (early-ask 2 place (between low high (u16At f i)) (omega arith))
     (early-ask 1 place (leb (sectionEnd size f i) (length f)) (omega arith)))
 
-early-layout : (f : List ℕ) → Early (layoutQuestions f)
+early-layout : (f : List ℕ) → Early 11 (layoutQuestions f)
 unfolding layoutQuestions endQuestion
 early-layout f =
     early-then (early-section 0 0 4 settingCount settingCount f)
@@ -52,14 +60,14 @@ early-layout f =
     (early-then (early-section 3 (outcomesAt f) 4 0 maxOutcomes f)
     (early-ask 3 3 (eqb (fileEnd f) (length f)) (omega arith)))))
 
-early-settings : (p : Problem) → Early (settingQuestions p)
+early-settings : (p : Problem) → Early 11 (settingQuestions p)
 unfolding settingQuestions
 early-settings p =
     early-then (early-ask 4 0 (ltb (p .start) (p .states)) (omega arith))
     (early-then (early-ask 4 1 (between 1 maxTolerance (p .tolerance)) (omega arith))
     (early-ask 4 2 (between 1 maxPenalty (p .penalty)) (omega arith)))
 
-early-items : (f : List ℕ) (p : Problem) → Early (itemQuestions f p)
+early-items : (f : List ℕ) (p : Problem) → Early 11 (itemQuestions f p)
 unfolding itemQuestions stateQuestion startQuestion rowNumberQuestion rowQuestion outcomeNumberQuestion outcomeQuestion estimateQuestion
 early-items f p =
     early-then (early-each 5 (p .states) (λ s. stateObeys (giveUpCost p) (p .estimate s) (p .rowCount s) (goalByteOf f s)) (omega arith))
@@ -71,7 +79,12 @@ early-items f p =
     (early-each 10 (p .rows) (λ r. outcomesObey (p .states) (p .outcomes r) && eqb (totalWeight (p .outcomes r)) weightTotal) (omega arith))
     (early-ask 11 _ (leb (p .states) (undercutState p (p .estimate))) (omega arith)))))))
 
-early-solve : (p : Problem) (budget : ℕ) (t : Tables) → Early (solveQuestions p budget t)
+-- questions 1 to 11 in order
+pub early-file : (f : List ℕ) → Early 11 (fileQuestions f)
+unfolding fileQuestions
+early-file f = early-then (early-layout f) (early-then (early-settings (problemOf f)) (early-items f (problemOf f)))
+
+early-solve : (p : Problem) (budget : ℕ) (t : Tables) → Early 13 (solveQuestions p budget t)
 unfolding solveQuestions
 early-solve p budget t =
     early-then (early-ask 12 0 (leb (p .states) (length (t .values))) (omega arith))
@@ -81,12 +94,5 @@ early-solve p budget t =
     (early-ask 13 0 (leb budget maxBudget) (omega arith)))))
 
 -- questions 1 to 13 in order
-pub early-questions : (f : List ℕ) (budget : ℕ) (t : Tables) → Early (fileQuestions f then solveQuestions (problemOf f) budget t)
-unfolding fileQuestions
-early-questions f budget t =
-    early-then (early-then (early-layout f) (early-then (early-settings (problemOf f)) (early-items f (problemOf f))))
-    (early-solve (problemOf f) budget t)
-
-pub early-number : {v : Verdict} → Early v → (q i : ℕ) → v ≡ fails q i → q < 14
-early-number passed q i e = let z : _≡_ {A = ℕ} 0 1 = cc in absurd (omega arith)
-early-number (failed {q = n} l) q i e = let same : n ≡ q = cc in omega arith
+pub early-questions : (f : List ℕ) (budget : ℕ) (t : Tables) → Early 13 (fileQuestions f then solveQuestions (problemOf f) budget t)
+early-questions f budget t = early-then (later (omega arith) (early-file f)) (early-solve (problemOf f) budget t)

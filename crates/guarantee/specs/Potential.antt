@@ -13,15 +13,15 @@ use lib.Seq.{getD-set-same, getD-set-other}
 use borrow.Author.Tests.{eq-eqb, ne-eqb}
 use Rattle.model.specs.Problem.{Problem, giveUpCost}
 use Rattle.model.specs.Search.{sumTo}
-use Rattle.model.specs.Value.{entry}
+use Rattle.model.specs.Value.{byState}
 use Rattle.model.specs.Cover.{allowanceOn, allowanceTo, openTo}
 use Rattle.model.specs.Rounds.{Machine, scanOf, backup, round}
-use Rattle.guarantee.specs.Formed.{WellFormed}
+use Rattle.guarantee.specs.WellFormed.{WellFormed}
 use Rattle.guarantee.specs.Rows.{giveUp-not-own}
 use Rattle.guarantee.specs.Sums.{sum-below, sum-less, quotient-less}
 use Rattle.guarantee.specs.Values.{quotient-rises}
 use Rattle.guarantee.specs.Choosing.{choice, choice-again}
-use Rattle.guarantee.specs.Sound.{Sound, scan-law, best-high, values-rise, backup-sound}
+use Rattle.guarantee.specs.Sound.{Sound, scan-law, best-high, backup-rises, backup-sound}
 use Rattle.guarantee.specs.Backups.{Open, Backed, rose, turned, rested, backed, backup-picks, round-keeps, walked-sound}
 
 abbrev pub turnsOn : Bool → ℕ
@@ -43,7 +43,7 @@ unfoldable pub unsettled : Problem → (ℕ → ℕ) → (ℕ → ℕ) → ℕ
 unsettled p v picks = sumTo (unsettledAt p v picks) (p .states)
 
 unfoldable pub potential : Problem → ℕ → Machine → ℕ
-potential p d m = left p d (entry (m .values)) * (openTo p (p .states) + 1) + unsettled p (entry (m .values)) (entry (m .picks))
+potential p d m = left p d (byState (m .values)) * (openTo p (p .states) + 1) + unsettled p (byState (m .values)) (byState (m .picks))
 
 -- the model's two sums, as sums of these
 pub allowance-left : (p : Problem) (d k : ℕ) → allowanceTo p d k ≡ sumTo (leftAt p d (p .estimate)) k
@@ -117,7 +117,7 @@ module _ (p : Problem) (formed : WellFormed p) (v picks after : ℕ → ℕ) (s 
 -- a backup lowers the potential, or changes nothing and leaves it
 module _ (p : Problem) (formed : WellFormed p) (d e : ℕ) (unit : 1 ≤ d) (steps : d ≤ e) (s : ℕ) (m : Machine) (o : Open p s)
     (sound : Sound p m) where
-  scan-pick : scanOf p s m .pick ≡ choice p (entry (m .values)) s (getD (m .picks) s 0) .pick
+  scan-pick : scanOf p s m .pick ≡ choice p (byState (m .values)) s (getD (m .picks) s 0) .pick
   scan-pick = ap (λ c. c .pick) (scan-law p formed s m (o .state) sound .ends)
 
   rise-lowers
@@ -129,9 +129,9 @@ module _ (p : Problem) (formed : WellFormed p) (d e : ℕ) (unit : 1 ≤ d) (ste
       let new : getD (backup p e s m .values) s 0 ≡ scanOf p s m .best =
       rw stores (getD-set-same (m .values) s (scanOf p s m .best) 0 (omega (arith, o .state, sound .values-length))) in
       let falls =
-      left-falls p d unit (entry (m .values)) (entry (backup p e s m .values)) (values-rise p formed s m (o .state) sound e) s o
+      left-falls p d unit (byState (m .values)) (byState (backup p e s m .values)) (backup-rises p formed s m (o .state) sound e) s o
       (omega arith) (omega (arith, best-high p formed s m (o .state) sound)) in
-      omega (arith, mul-le-mul-right (n + 1) falls, unsettled-high p (entry (backup p e s m .values)) (entry (backup p e s m .picks)))
+      omega (arith, mul-le-mul-right (n + 1) falls, unsettled-high p (byState (backup p e s m .values)) (byState (backup p e s m .picks)))
 
   turn-lowers
       : (scanOf p s m .pick ≡ getD (m .picks) s 0 → ⊥) → backup p e s m .values ≡ m .values
@@ -141,7 +141,7 @@ module _ (p : Problem) (formed : WellFormed p) (d e : ℕ) (unit : 1 ≤ d) (ste
       rw (stays, backup-picks p e s m)
       (omega (
         arith,
-        unsettled-falls p formed (entry (m .values)) (entry (m .picks)) (entry (set (m .picks) s (scanOf p s m .pick))) s o
+        unsettled-falls p formed (byState (m .values)) (byState (m .picks)) (byState (set (m .picks) s (scanOf p s m .pick))) s o
             (λ t ne. getD-set-other (m .picks) s t (scanOf p s m .pick) 0 ne)
             (getD-set-same (m .picks) s (scanOf p s m .pick) 0 (omega (arith, o .state, sound .picks-length)) ∙ scan-pick)
             (λ q. turns (scan-pick ∙ q)),
@@ -163,19 +163,19 @@ module _ (p : Problem) (formed : WellFormed p) (d e : ℕ) (unit : 1 ≤ d) (ste
       go (rested close same values picks moved) = inr (rest-leaves values picks, moved)
 
 -- a sound machine whose potential is at most K, and below K once something has moved
-record Within (p : Problem) (d K : ℕ) (m : Machine) : Type 0 where
+record PotentialWithin (p : Problem) (d K : ℕ) (m : Machine) : Type 0 where
   sound : Sound p m
   at-most : potential p d m ≤ K
   below : m .moved ≡ true → potential p d m < K
 
 -- a round that is not quiet lowers the potential
 module _ (p : Problem) (formed : WellFormed p) (d e : ℕ) (unit : 1 ≤ d) (steps : d ≤ e) where
-  backup-within : (K s : ℕ) (m : Machine) → Open p s → Within p d K m → Within p d K (backup p e s m)
+  backup-within : (K s : ℕ) (m : Machine) → Open p s → PotentialWithin p d K m → PotentialWithin p d K (backup p e s m)
   backup-within K s m o h = go (backup-lowers p formed d e unit steps s m o (h .sound))
     where
       go : (potential p d (backup p e s m) < potential p d m)
           ⊎ ((potential p d (backup p e s m) ≡ potential p d m) × (backup p e s m .moved ≡ m .moved))
-          → Within p d K (backup p e s m)
+          → PotentialWithin p d K (backup p e s m)
       go (inl less) =
           record {
             sound = backup-sound p formed s m (o .state) (h .sound) e (o .no-goal);
@@ -192,5 +192,5 @@ module _ (p : Problem) (formed : WellFormed p) (d e : ℕ) (unit : 1 ≤ d) (ste
   pub round-lowers : (m : Machine) → Sound p m → round p e m .moved ≡ true → potential p d (round p e m) < potential p d m
   unfolding potential
   round-lowers m sound moved =
-      round-keeps p e (Within p d (potential p d m)) (backup-within (potential p d m)) formed m
+      round-keeps p e (PotentialWithin p d (potential p d m)) (backup-within (potential p d m)) formed m
       (record { sound = walked-sound p formed e m sound; at-most = omega arith; below = λ q. absurd (true≢false (sym q)) }) .below moved

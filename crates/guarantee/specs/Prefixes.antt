@@ -18,13 +18,12 @@ use Rattle.model.specs.Lines.{planText, runStates}
 use Rattle.model.specs.Problem.{Problem}
 use Rattle.model.specs.Sections.{problemOf, sectionEnd, statesAt, rowsAt, outcomesAt, fileEnd}
 use Rattle.model.specs.TableFiles.{entries16, entries32}
-use Rattle.model.specs.Value.{entry}
+use Rattle.model.specs.Value.{byState}
 use Rattle.model.specs.Questions.{Verdict, passes, fails, _then_, ask, between, sectionQuestions, endQuestion, layoutQuestions}
 use Rattle.model.specs.Questions.{fileQuestions}
 use Rattle.model.specs.Solution.{Tables, solution, solutionOn}
 use Rattle.model.specs.Audit.{refused, orElse, problemAudit, audit, auditOn}
-use Rattle.guarantee.specs.Formed.{WellFormed}
-use Rattle.guarantee.specs.WellFormed.{section-there, between-high, well-formed, sectioned}
+use Rattle.guarantee.specs.WellFormed.{WellFormed, section-there, between-high, well-formed, sectioned}
 use Rattle.guarantee.specs.Agreeing.{tables-same}
 use Rattle.guarantee.specs.TableFiles.{u16-front, entries16-front, entries32-front}
 
@@ -163,7 +162,7 @@ problem-front N p formed values picks h =
     rw (front-long N (p .states) values low, front-long N (p .states) picks low)
     (ap (λ said. orElse (leb (p .states) (length values)) (refused 15 0 (pos 0))
     (orElse (leb (p .states) (length picks)) (refused 15 1 (pos 0)) said))
-    (tables-same p formed (entry (take N values)) (entry values) (entry (take N picks)) (entry picks)
+    (tables-same p formed (byState (take N values)) (byState values) (byState (take N picks)) (byState picks)
     (λ s l. getD-take N values s 0 (omega arith)) (λ s l. getD-take N picks s 0 (omega arith))))
 
 -- the audit reads the entries of states alone

@@ -8,7 +8,7 @@ use lib.Dec.{leb}
 use borrow.Author.Tests.{leb-true, ltb-true, le-leb, lt-ltb}
 use Rattle.model.specs.Limits.{giveUp, noPick}
 use Rattle.model.specs.Problem.{Problem, endRow, ownRow}
-use Rattle.guarantee.specs.Formed.{WellFormed}
+use Rattle.guarantee.specs.WellFormed.{WellFormed}
 use Rattle.guarantee.specs.Searches.{and-left, and-right, and-both}
 use Rattle.guarantee.specs.Walks.{rows-within, own-row}
 

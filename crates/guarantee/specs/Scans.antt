@@ -11,7 +11,7 @@ use borrow.Author.Tests.{leb-true}
 use Rattle.model.specs.Problem.{Problem, ownRow}
 use Rattle.model.specs.Value.{rowValue}
 use Rattle.model.specs.Rounds.{Found, evaluateOn, considerOn, consider, considerIf, scanFrom, scan}
-use Rattle.guarantee.specs.Formed.{WellFormed}
+use Rattle.guarantee.specs.WellFormed.{WellFormed}
 use Rattle.guarantee.specs.Tables.{stored}
 use Rattle.guarantee.specs.Walks.{rows-within, own-row}
 use Rattle.guarantee.specs.Choosing.{Chosen, chooseOn, choose, chooseIf, chooseFrom, choose-idle}
@@ -44,10 +44,10 @@ module _ (p : Problem) (v : ℕ → ℕ) where
   evaluated false r a h = record { ends = refl; memory = memory-stored (a .remembered) r h; size = length-set (a .remembered) r _ }
 
   -- a skipped row would not have been picked: its remembered value is at least best and at most its value
-  pub skipped-not-picked
+  pub skipped-not-better
       : (r : ℕ) (a : Found) → r < p .rows → Memory p v (a .remembered) → a .best ≤ getD (a .remembered) r 0
       → choose (rowValue p v) r (chosen a) ≡ chosen a
-  skipped-not-picked r a l h skipped = choose-idle (rowValue p v) r (chosen a) (omega (arith, h r l))
+  skipped-not-better r a l h skipped = choose-idle (rowValue p v) r (chosen a) (omega (arith, h r l))
 
   pub considered
       : (r : ℕ) (a : Found) → r < p .rows → Memory p v (a .remembered)
@@ -58,7 +58,7 @@ module _ (p : Problem) (v : ℕ → ℕ) where
       go
           : (b : Bool) → leb (a .best) (getD (a .remembered) r 0) ≡ b
           → Scanned p v a (considerOn b p v r a) (choose (rowValue p v) r (chosen a))
-      go true e = record { ends = sym (skipped-not-picked r a l h (leb-true _ _ e)); memory = h; size = refl }
+      go true e = record { ends = sym (skipped-not-better r a l h (leb-true _ _ e)); memory = h; size = refl }
       go false e = evaluated (ltb (rowValue p v r) (a .best)) r a h
 
   pub considered-if

@@ -28,10 +28,6 @@ and-both p q = rw p q
 pub and-not-left : {a : Bool} (b : Bool) → a ≡ false → (a && b) ≡ false
 and-not-left b p = rw p
 
-pub and-not-right : (a : Bool) {b : Bool} → b ≡ false → (a && b) ≡ false
-and-not-right true h = h
-and-not-right false h = refl
-
 pub or-skip : (a b : Bool) → (a || b) ≡ true → a ≡ false → b ≡ true
 or-skip true b h e = absurd (true≢false e)
 or-skip false b h e = h
@@ -46,10 +42,6 @@ or-right false h = h
 pub or-cases : (a b : Bool) → (a || b) ≡ true → (a ≡ true) ⊎ (b ≡ true)
 or-cases true b h = inl refl
 or-cases false b h = inr h
-
-pub true-or-false : (b : Bool) → (b ≡ true) ⊎ (b ≡ false)
-true-or-false true = inl refl
-true-or-false false = inr refl
 
 -- "a implies b", as the questions write it
 pub implied : (a b : Bool) → (not a || b) ≡ true → a ≡ true → b ≡ true
@@ -117,18 +109,6 @@ first-at ok i (suc k) h = step (ok i) refl h (first-at ok (suc i) k)
     step true e l next = next (omega arith)
     step false e l next = e
 
--- the end is the place before which the test says yes and at which it says no
-
-pub first-is
-    : (ok : ℕ → Bool) (i k j : ℕ) → i ≤ j → j < i + k → ((m : ℕ) → i ≤ m → m < j → ok m ≡ true) → ok j ≡ false → first ok i k ≡ j
-first-is ok i zero j low high before at = absurd (omega arith)
-first-is ok i (suc k) j low high before at =
-    step (eq-or-lt-of-le low) (λ l. first-is ok (suc i) k j l (omega arith) (λ m a b. before m (omega arith) b) at)
-  where
-    step : (i ≡ j) ⊎ (i < j) → (i < j → first ok (suc i) k ≡ j) → first ok i (suc k) ≡ j
-    step (inl s) next = first-no ok i k (rw s at) ∙ s
-    step (inr l) next = first-yes ok i k (before i (omega arith) l) ∙ next l
-
 -- the test says yes at each of k places from i on: what the search's end says, and back
 
 pub first-all : (ok : ℕ → Bool) (i k : ℕ) → i + k ≤ first ok i k → (j : ℕ) → i ≤ j → j < i + k → ok j ≡ true
@@ -166,9 +146,6 @@ pub then-next : (v w : Verdict) → (v then w) ≡ passes → w ≡ passes
 then-next passes w h = h
 then-next (fails q i) w h = cc
 
-pub then-both : {v w : Verdict} → v ≡ passes → w ≡ passes → (v then w) ≡ passes
-then-both p q = rw p q
-
 pub ask-yes : (q i : ℕ) (b : Bool) → ask q i b ≡ passes → b ≡ true
 ask-yes q i true h = refl
 ask-yes q i false h = cc
@@ -178,9 +155,6 @@ yes-ask q i h = rw h
 
 pub ask-each-yes : (q n : ℕ) (ok : ℕ → Bool) → askEach q n ok ≡ passes → (j : ℕ) → j < n → ok j ≡ true
 ask-each-yes q n ok h = each-yes ok n (ask-yes q (first ok 0 n) (leb n (first ok 0 n)) h)
-
-pub yes-ask-each : (q n : ℕ) (ok : ℕ → Bool) → ((j : ℕ) → j < n → ok j ≡ true) → askEach q n ok ≡ passes
-yes-ask-each q n ok h = yes-ask q (first ok 0 n) (yes-each ok n h)
 
 -- sums
 

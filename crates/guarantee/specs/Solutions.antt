@@ -1,7 +1,7 @@
 -- Solving a file, told by its answer and the tables that are left: refusals leave the tables as lent, number 14 never comes, solved is
 -- accepted. With questions 1 to 13 answered yes the machine is sound from the start, so the checked run is the run of Rounds.antt.
 use mathlib.Core.Path.{_≡_, refl, sym, _∙_, ap}
-use Prim.Native.Nat.{ℕ, _+_, _*_, _≤_}
+use Prim.Native.Nat.{ℕ, _≤_}
 use native.Mathlib.Omega.{arith}
 use mathlib.Core.Bool.{true, true≢false}
 use mathlib.Core.List.{List}
@@ -10,20 +10,21 @@ use lib.ListN.{length}
 use borrow.Author.Tests.{leb-true}
 use Rattle.model.specs.Limits.{maxBudget}
 use Rattle.model.specs.Problem.{Problem}
-use Rattle.model.specs.Value.{entry}
+use Rattle.model.specs.Value.{byState}
 use Rattle.model.specs.Sections.{problemOf}
 use Rattle.model.specs.Questions.{Verdict, passes, fails, _then_, ask}
 use Rattle.model.specs.Questions.{fileQuestions}
 use Rattle.model.specs.Walk.{leastCost}
-use Rattle.model.specs.Cover.{allowance, openTo}
 use Rattle.model.specs.Rounds.{Machine, Ending, machineStart, runOf}
 use Rattle.model.specs.Solution.{fine, Tables, Answer, solved, spent, refused, tablesOf, solutionOf}
 use Rattle.model.specs.Solution.{solveQuestions, solutionOn, solution}
 use Rattle.model.specs.Audit.{accepted, audit}
+use Rattle.model.specs.Promises.{roundsEnough}
 use Rattle.guarantee.specs.Searches.{then-first, then-next, ask-yes}
 use Rattle.guarantee.specs.Numbers.{early-questions, early-number}
 use Rattle.guarantee.specs.WellFormed.{well-formed}
 use Rattle.guarantee.specs.Sound.{Sound, start-sound}
+use Rattle.guarantee.specs.Backups.{run-spent}
 use Rattle.guarantee.specs.Checks.{checked-run}
 use Rattle.guarantee.specs.Ending.{solve-ends}
 use Rattle.guarantee.specs.Solved.{solved-passes-audit}
@@ -59,7 +60,7 @@ pub record SolvedBy (f : List ℕ) (budget : ℕ) (t : Tables) (n e C : ℕ) : T
   pub machine : Machine
   pub run : runWith f budget t ≡ Ending.solved n machine
   pub evaluations : machine .evaluations ≡ e
-  pub least : leastCost (problemOf f) (entry (machine .picks)) ≡ C
+  pub least : leastCost (problemOf f) (byState (machine .picks)) ≡ C
   pub left : solution f budget t .tables ≡ tablesOf (problemOf f) (t .walk-list) machine
 
 -- what a refusal comes from
@@ -112,8 +113,7 @@ module _ (f : List ℕ) (budget : ℕ) (t : Tables) (file : fileQuestions f ≡ 
 
   -- "given at least (A + 1) × (n + 1) rounds ends solved"
   pub solution-ends
-      : (allowance (problemOf f) + 1) * (openTo (problemOf f) (problemOf f .states) + 1) ≤ budget
-      → SolvedWithin ((allowance (problemOf f) + 1) * (openTo (problemOf f) (problemOf f .states) + 1)) (solution f budget t .answer)
+      : roundsEnough (problemOf f) ≤ budget → SolvedWithin (roundsEnough (problemOf f)) (solution f budget t .answer)
   unfolding solutionOf
   solution-ends room =
       let p = problemOf f in
@@ -123,7 +123,7 @@ module _ (f : List ℕ) (budget : ℕ) (t : Tables) (file : fileQuestions f ≡ 
       record {
         rounds = run .rounds;
         evaluations = run .machine .evaluations;
-        least = leastCost p (entry (run .machine .picks));
+        least = leastCost p (byState (run .machine .picks));
         ends = rw (solution-run, run .ends) refl;
         within = run .within;
       }
@@ -170,7 +170,7 @@ module _ (f : List ℕ) (budget : ℕ) (t : Tables) where
       on : fileQuestions f ≡ passes → solveQuestions (problemOf f) budget t ≡ passes → (run : Ending) → runWith f budget t ≡ run
           → solution f budget t ≡ solutionOf (problemOf f) (t .walk-list) (fine run) → SolvedBy f budget t n e C
       on file lent (Ending.solved k m) run is =
-          let least = leastCost (problemOf f) (entry (m .picks)) in
+          let least = leastCost (problemOf f) (byState (m .picks)) in
           let same : solved k (m .evaluations) least ≡ solved n e C = sym (ap (λ x. x .answer) is) ∙ h in
           record {
             file = file;
@@ -190,6 +190,23 @@ module _ (f : List ℕ) (budget : ℕ) (t : Tables) where
           let never : refused q i ≡ solved n e C = sym (ap (λ x. x .answer) is) ∙ h in
           absurd (true≢false (cc))
       go (ran file lent is) = on file lent (runWith f budget t) refl is
+
+  -- an answer "spent" comes from a run that has done every round of its budget
+  pub spent-budget : (n e : ℕ) → solution f budget t .answer ≡ spent n e → n ≡ budget
+  unfolding solutionOf
+  spent-budget n e h = go told
+    where
+      on : (run : Ending) → runWith f budget t ≡ run → solutionOf (problemOf f) (t .walk-list) (fine run) .answer ≡ spent n e → n ≡ budget
+      on (Ending.solved k m) run h = absurd (true≢false (cc))
+      on (Ending.spent k m) run h =
+          let same : k ≡ n = cc in
+          omega (arith, run-spent (problemOf f) (problemOf f .tolerance) budget 0 _ k m run)
+
+      go : Told f budget t → n ≡ budget
+      go (turned-down q i failed is) =
+          let never : refused q i ≡ spent n e = sym (ap (λ x. x .answer) is) ∙ h in
+          absurd (true≢false (cc))
+      go (ran file lent is) = on (runWith f budget t) refl (rw is at h)
 
   -- number 14 never comes
   pub never-fourteen : (r : ℕ) → solution f budget t .answer ≡ refused 14 r → ⊥

@@ -11,14 +11,13 @@ use lib.ListN.{getD, length}
 use borrow.Author.Tests.{eqb-false, eq-eqb, ne-eqb}
 use Rattle.model.specs.Limits.{giveUp}
 use Rattle.model.specs.Problem.{Problem, ownRow}
-use Rattle.model.specs.Value.{entry}
+use Rattle.model.specs.Value.{byState}
 use Rattle.model.specs.Walk.{In, here, there, walk, leastCost}
 use Rattle.model.specs.Sections.{problemOf}
 use Rattle.model.specs.Questions.{passes, fileQuestions}
 use Rattle.model.specs.Rounds.{Machine, scanOf, backup, backups, walked, round, solved, machineStart, runOf}
-use Rattle.model.specs.Audit.{accepted, pickValue, tableQuestions, audit}
-use Rattle.guarantee.specs.Formed.{WellFormed}
-use Rattle.guarantee.specs.WellFormed.{well-formed}
+use Rattle.model.specs.Audit.{accepted, pickValue, audit}
+use Rattle.guarantee.specs.WellFormed.{WellFormed, well-formed}
 use Rattle.guarantee.specs.Graphs.{in-cons, in-nil}
 use Rattle.guarantee.specs.Walks.{marked-reached, reached-listed}
 use Rattle.guarantee.specs.Rows.{row-no-mark}
@@ -30,8 +29,8 @@ use Rattle.guarantee.specs.Accepted.{Accepts, accepted-table, yes-audit}
 
 -- a state that is at rest with tolerance e: its choice is its pick, and V(s) lies less than e below best
 pub record Rests (p : Problem) (e : ℕ) (values picks : List ℕ) (s : ℕ) : Type 0 where
-  pub same : choice p (entry values) s (getD picks s 0) .pick ≡ getD picks s 0
-  pub close : choice p (entry values) s (getD picks s 0) .best < getD values s 0 + e
+  pub same : choice p (byState values) s (getD picks s 0) .pick ≡ getD picks s 0
+  pub close : choice p (byState values) s (getD picks s 0) .best < getD values s 0 + e
 
 -- backups from m to m′ along l that moved nothing
 pub record Still (p : Problem) (e : ℕ) (l : List ℕ) (m m′ : Machine) : Type 0 where
@@ -44,8 +43,8 @@ module _ (p : Problem) (formed : WellFormed p) (e : ℕ) where
   backup-still : (s : ℕ) (m : Machine) → Open p s → Sound p m → backup p e s m .moved ≡ false → Still p e (s ∷ []) m (backup p e s m)
   backup-still s m o sound quiet = go (backed p e s m)
     where
-      ends : (scanOf p s m .best ≡ choice p (entry (m .values)) s (getD (m .picks) s 0) .best)
-          × (scanOf p s m .pick ≡ choice p (entry (m .values)) s (getD (m .picks) s 0) .pick)
+      ends : (scanOf p s m .best ≡ choice p (byState (m .values)) s (getD (m .picks) s 0) .best)
+          × (scanOf p s m .pick ≡ choice p (byState (m .values)) s (getD (m .picks) s 0) .pick)
       ends = let law = scan-law p formed s m (o .state) sound .ends in (ap (λ c. c .best) law, ap (λ c. c .pick) law)
 
       go : Backed p e s m → Still p e (s ∷ []) m (backup p e s m)
@@ -79,10 +78,10 @@ module _ (p : Problem) (formed : WellFormed p) (e : ℕ) where
 
   -- a quiet round: values and picks stay, and every listed state rests
   pub round-still
-      : (m : Machine) → Sound p m → round p e m .moved ≡ false → Still p e (walk p (entry (m .picks)) .list) (walked p m) (round p e m)
+      : (m : Machine) → Sound p m → round p e m .moved ≡ false → Still p e (walk p (byState (m .picks)) .list) (walked p m) (round p e m)
   unfolding round
   round-still m sound quiet =
-      let picks = entry (m .picks) in
+      let picks = byState (m .picks) in
       backups-still (walk p picks .list) (walked p m) (walk-opens p formed picks) (walked-sound p formed e m sound) quiet
 
 -- where a choice landed on the pick, the pick is an own row or giving up, and its value is the choice's best
@@ -99,17 +98,17 @@ module _ (p : Problem) (v picks : ℕ → ℕ) (s : ℕ) (c : Chosen) where
 
 -- sound tables whose listed states rest are accepted
 module _ (p : Problem) (formed : WellFormed p) (m : Machine) (sound : Sound p m)
-    (rests : (s : ℕ) → In s (walk p (entry (m .picks)) .list) → Rests p (p .tolerance) (m .values) (m .picks) s) where
+    (rests : (s : ℕ) → In s (walk p (byState (m .picks)) .list) → Rests p (p .tolerance) (m .values) (m .picks) s) where
   marked-rests
-      : (s : ℕ) → p .goal s ≡ false → eqb (getD (walk p (entry (m .picks)) .marks) s 0) 0 ≡ false
+      : (s : ℕ) → p .goal s ≡ false → eqb (getD (walk p (byState (m .picks)) .marks) s 0) 0 ≡ false
       → Rests p (p .tolerance) (m .values) (m .picks) s
   marked-rests s no-goal marked =
-      rests s (reached-listed p formed (entry (m .picks)) s (marked-reached p formed (entry (m .picks)) s (eqb-false _ _ marked)) no-goal)
+      rests s (reached-listed p formed (byState (m .picks)) s (marked-reached p formed (byState (m .picks)) s (eqb-false _ _ marked)) no-goal)
 
-  pub resting-accepted : Accepts p (entry (m .values)) (entry (m .picks)) (leastCost p (entry (m .picks)))
+  pub resting-accepted : Accepts p (byState (m .values)) (byState (m .picks)) (leastCost p (byState (m .picks)))
   resting-accepted =
-      let v = entry (m .values) in
-      let picks = entry (m .picks) in
+      let v = byState (m .values) in
+      let picks = byState (m .picks) in
       record {
         goal-zero = sound .goal-values;
         value-high = λ s l g. sound .high s l;
@@ -125,8 +124,8 @@ module _ (p : Problem) (formed : WellFormed p) (m : Machine) (sound : Sound p m)
 -- the end of a solved run
 pub record Final (p : Problem) (m : Machine) : Type 0 where
   pub sound : Sound p m
-  pub listed : m .list ≡ walk p (entry (m .picks)) .list
-  pub accepts : Accepts p (entry (m .values)) (entry (m .picks)) (leastCost p (entry (m .picks)))
+  pub listed : m .list ≡ walk p (byState (m .picks)) .list
+  pub accepts : Accepts p (byState (m .values)) (byState (m .picks)) (leastCost p (byState (m .picks)))
 
 quiet-final : (p : Problem) → WellFormed p → (m : Machine) → Sound p m → round p (p .tolerance) m .moved ≡ false
     → Final p (round p (p .tolerance) m)
@@ -150,23 +149,19 @@ module _ (p : Problem) (formed : WellFormed p) (values picks remembered : List �
       let last = run-quiet p (p .tolerance) (λ n. Sound p) (λ n. round-sound p formed (p .tolerance)) budget 0 start k m sound run in
       rw (last .ends) at (quiet-final p formed (last .before) (last .held) (last .quiet))
 
-  -- "the audit accepts that file with the values and picks the run left": questions 16 to 19
-  pub solved-accepted : tableQuestions p (entry (m .values)) (entry (m .picks)) ≡ accepted (leastCost p (entry (m .picks)))
-  solved-accepted = accepted-table p (entry (m .values)) (entry (m .picks)) _ (solved-final .accepts)
-
 -- of a file: a solved run's tables pass the audit of the same file, which gives the run's C
 pub solved-passes-audit
     : (f values picks remembered : List ℕ) → fileQuestions f ≡ passes
     → problemOf f .states ≤ length values → problemOf f .states ≤ length picks → problemOf f .rows ≤ length remembered
     → (budget k : ℕ) (m : Machine) → runOf (problemOf f) budget values picks remembered ≡ solved k m
-    → audit f (m .values) (m .picks) ≡ accepted (leastCost (problemOf f) (entry (m .picks)))
+    → audit f (m .values) (m .picks) ≡ accepted (leastCost (problemOf f) (byState (m .picks)))
 solved-passes-audit f values picks remembered file long-values long-picks long-remembered budget k m run =
     let p = problemOf f in
     let final = solved-final p (well-formed f file) values picks remembered long-values long-picks long-remembered budget k m run in
-    yes-audit f (m .values) (m .picks) (leastCost p (entry (m .picks)))
+    yes-audit f (m .values) (m .picks) (leastCost p (byState (m .picks)))
     (record {
       file-passes = file;
       values-long = final .sound .values-length;
       picks-long = final .sound .picks-length;
-      table-accepted = accepted-table p (entry (m .values)) (entry (m .picks)) _ (final .accepts);
+      table-accepted = accepted-table p (byState (m .values)) (byState (m .picks)) _ (final .accepts);
     })

@@ -9,22 +9,22 @@ use mathlib.Core.List.{List}
 use lib.ListN.{getD, length, length-set}
 use Rattle.model.specs.Limits.{giveUp, noPick, valueBound}
 use Rattle.model.specs.Problem.{Problem, giveUpCost, endRow, ownRow}
-use Rattle.model.specs.Value.{rowValue, entry}
+use Rattle.model.specs.Value.{rowValue, byState}
 use Rattle.model.specs.Rounds.{Found, Machine, scanStart, scanOf, raiseOn, rises, settle, backup, machineStart, fillTo, bellman}
-use Rattle.guarantee.specs.Formed.{WellFormed}
+use Rattle.guarantee.specs.WellFormed.{WellFormed}
 use Rattle.guarantee.specs.Values.{rowValue-rises-all, rowValue-same-states, rowValue-fits}
 use Rattle.guarantee.specs.Undercuts.{NoUndercut}
 use Rattle.guarantee.specs.Tables.{stored, fill-length, fill-entry}
-use Rattle.guarantee.specs.Rows.{row-of-file, row-no-mark}
+use Rattle.guarantee.specs.Rows.{row-of-file}
 use Rattle.guarantee.specs.Choosing.{choice, Landed, at-giving-up, at-row, choice-landed}
 use Rattle.guarantee.specs.Scans.{Memory, chosen, Scanned, scanned}
 use Rattle.guarantee.specs.Bellman.{bellman-high, bellman-under, bellman-greatest, choice-bellman}
 
 -- what a picks table may hold at state s: nothing, giving up, or one of its own rows
 pub data Allowed (p : Problem) (s x : ℕ) : Type 0 where
-  no-pick : x ≡ noPick → Allowed p s x
-  gives-up : x ≡ giveUp → Allowed p s x
-  own-row : ownRow p s x ≡ true → Allowed p s x
+  holds-none : x ≡ noPick → Allowed p s x
+  holds-giving-up : x ≡ giveUp → Allowed p s x
+  holds-own : ownRow p s x ≡ true → Allowed p s x
 
 pub record SoundTables (p : Problem) (values picks remembered : List ℕ) : Type 0 where
   pub values-length : p .states ≤ length values
@@ -32,8 +32,8 @@ pub record SoundTables (p : Problem) (values picks remembered : List ℕ) : Type
   pub remembered-length : p .rows ≤ length remembered
   pub goal-values : (s : ℕ) → s < p .states → p .goal s ≡ true → getD values s 0 ≡ 0
   pub high : (s : ℕ) → s < p .states → getD values s 0 ≤ giveUpCost p
-  pub under : NoUndercut p (entry values)
-  pub memory : Memory p (entry values) remembered
+  pub under : NoUndercut p (byState values)
+  pub memory : Memory p (byState values) remembered
   pub picked : (s : ℕ) → s < p .states → Allowed p s (getD picks s 0)
   pub goal-picks : (s : ℕ) → s < p .states → p .goal s ≡ true → getD picks s 0 ≡ noPick
 
@@ -68,77 +68,62 @@ module _ (p : Problem) (formed : WellFormed p) where
         high = λ s l. rw (at s l) (formed .estimate-high s l);
         under = λ s r l low top. rw (at s l, same r (row-of-file p formed s r l top)) (formed .estimate-under s r l low top);
         memory = λ r l. omega (arith, fill-entry (rowValue p (p .estimate)) remembered (p .rows) r long-remembered l, same r l);
-        picked = λ s l. no-pick (fill-entry (λ s. noPick) picks (p .states) s long-picks l);
+        picked = λ s l. holds-none (fill-entry (λ s. noPick) picks (p .states) s long-picks l);
         goal-picks = λ s l g. fill-entry (λ s. noPick) picks (p .states) s long-picks l;
       }
     where
       at : (s : ℕ) → s < p .states → getD (fillTo (p .estimate) values (p .states)) s 0 ≡ p .estimate s
       at s l = fill-entry (p .estimate) values (p .states) s long-values l
 
-      same : (r : ℕ) → r < p .rows → rowValue p (entry (fillTo (p .estimate) values (p .states))) r ≡ rowValue p (p .estimate) r
+      same : (r : ℕ) → r < p .rows → rowValue p (byState (fillTo (p .estimate) values (p .states))) r ≡ rowValue p (p .estimate) r
       same r l = rowValue-same-states p formed _ _ at r l
 
   -- number 14 never comes: in a sound machine every row value fits in 32 bits
-  pub evaluation-fits : (m : Machine) → Sound p m → (r : ℕ) → r < p .rows → rowValue p (entry (m .values)) r < valueBound
-  evaluation-fits m sound = rowValue-fits p formed (entry (m .values)) (sound .high)
-
-  -- so what the tables hold fits their widths: 32 bits for values and memories, 16 for picks
-  pub value-fits : (m : Machine) → Sound p m → (s : ℕ) → s < p .states → getD (m .values) s 0 < valueBound
-  value-fits m sound s l = omega (arith, sound .high s l, formed .penalty-high)
-
-  pub memory-fits : (m : Machine) → Sound p m → (r : ℕ) → r < p .rows → getD (m .remembered) r 0 < valueBound
-  memory-fits m sound r l = omega (arith, sound .memory r l, evaluation-fits m sound r l)
-
-  pub pick-fits : (m : Machine) → Sound p m → (s : ℕ) → s < p .states → getD (m .picks) s 0 ≤ giveUp
-  pick-fits m sound s l = go (sound .picked s l)
-    where
-      go : Allowed p s (getD (m .picks) s 0) → getD (m .picks) s 0 ≤ giveUp
-      go (no-pick e) = omega arith
-      go (gives-up e) = omega arith
-      go (own-row own) = omega (arith, row-no-mark p formed s (getD (m .picks) s 0) l own)
+  pub evaluation-fits : (m : Machine) → Sound p m → (r : ℕ) → r < p .rows → rowValue p (byState (m .values)) r < valueBound
+  evaluation-fits m sound = rowValue-fits p formed (byState (m .values)) (sound .high)
 
   -- a scan in a sound machine
   module _ (s : ℕ) (m : Machine) (state : s < p .states) (sound : Sound p m) where
-    pub scan-law : Scanned p (entry (m .values)) (scanStart p m) (scanOf p s m) (choice p (entry (m .values)) s (getD (m .picks) s 0))
+    pub scan-law : Scanned p (byState (m .values)) (scanStart p m) (scanOf p s m) (choice p (byState (m .values)) s (getD (m .picks) s 0))
     unfolding choice
-    scan-law = scanned p (entry (m .values)) formed s (getD (m .picks) s 0) (scanStart p m) state (sound .memory)
+    scan-law = scanned p (byState (m .values)) formed s (getD (m .picks) s 0) (scanStart p m) state (sound .memory)
 
     -- "built on the Bellman backup": skipping and memory change nothing
-    pub best-is-bellman : scanOf p s m .best ≡ bellman p (entry (m .values)) s
-    best-is-bellman = ap (λ c. c .best) (scan-law .ends) ∙ choice-bellman p (entry (m .values)) s (getD (m .picks) s 0)
+    pub best-is-bellman : scanOf p s m .best ≡ bellman p (byState (m .values)) s
+    best-is-bellman = ap (λ c. c .best) (scan-law .ends) ∙ choice-bellman p (byState (m .values)) s (getD (m .picks) s 0)
 
     -- best is never below the value that stands
     pub value-below-best : getD (m .values) s 0 ≤ scanOf p s m .best
     value-below-best =
         rw best-is-bellman
-        (bellman-greatest p (entry (m .values)) s (getD (m .values) s 0) (sound .high s state) (λ r. sound .under s r state))
+        (bellman-greatest p (byState (m .values)) s (getD (m .values) s 0) (sound .high s state) (λ r. sound .under s r state))
 
     pub best-high : scanOf p s m .best ≤ giveUpCost p
-    best-high = rw best-is-bellman (bellman-high p (entry (m .values)) s)
+    best-high = rw best-is-bellman (bellman-high p (byState (m .values)) s)
 
-    pub best-under : (r : ℕ) → p .firstRow s ≤ r → r < endRow p s → scanOf p s m .best ≤ rowValue p (entry (m .values)) r
-    best-under r low top = rw best-is-bellman (bellman-under p (entry (m .values)) s r low top)
+    pub best-under : (r : ℕ) → p .firstRow s ≤ r → r < endRow p s → scanOf p s m .best ≤ rowValue p (byState (m .values)) r
+    best-under r low top = rw best-is-bellman (bellman-under p (byState (m .values)) s r low top)
 
-    pub scan-landed : Landed p (entry (m .values)) s (chosen (scanOf p s m))
-    scan-landed = rw (scan-law .ends) (choice-landed p (entry (m .values)) s (getD (m .picks) s 0))
+    pub scan-landed : Landed p (byState (m .values)) s (chosen (scanOf p s m))
+    scan-landed = rw (scan-law .ends) (choice-landed p (byState (m .values)) s (getD (m .picks) s 0))
 
     -- values only rise
-    pub values-rise : (e : ℕ) (t : ℕ) → getD (m .values) t 0 ≤ getD (backup p e s m .values) t 0
+    pub backup-rises : (e : ℕ) (t : ℕ) → getD (m .values) t 0 ≤ getD (backup p e s m .values) t 0
     unfolding backup settle
-    values-rise e =
+    backup-rises e =
         let a = scanOf p s m in
         raised (λ t x. getD (m .values) t 0 ≤ x) (rises e s m a) (m .values) s (a .best) (λ t. omega arith) value-below-best
 
     -- so row values only rise
-    pub row-values-rise : (e r : ℕ) → rowValue p (entry (m .values)) r ≤ rowValue p (entry (backup p e s m .values)) r
-    row-values-rise e = rowValue-rises-all p (entry (m .values)) (entry (backup p e s m .values)) (values-rise e)
+    pub row-values-rise : (e r : ℕ) → rowValue p (byState (m .values)) r ≤ rowValue p (byState (backup p e s m .values)) r
+    row-values-rise e = rowValue-rises-all p (byState (m .values)) (byState (backup p e s m .values)) (backup-rises e)
 
     pub pick-allowed : Allowed p s (scanOf p s m .pick)
     pick-allowed = go scan-landed
       where
-        go : Landed p (entry (m .values)) s (chosen (scanOf p s m)) → Allowed p s (scanOf p s m .pick)
-        go (at-giving-up e b) = gives-up e
-        go (at-row own b less) = own-row own
+        go : Landed p (byState (m .values)) s (chosen (scanOf p s m)) → Allowed p s (scanOf p s m .pick)
+        go (at-giving-up e b) = holds-giving-up e
+        go (at-row own b less) = holds-own own
 
     -- every backup of a state that is no goal keeps a machine sound, whatever the tolerance
     pub backup-sound : (e : ℕ) → p .goal s ≡ false → Sound p (backup p e s m)
@@ -155,7 +140,7 @@ module _ (p : Problem) (formed : WellFormed p) where
           under =
               λ t r l low top.
               le-trans
-              (raised (λ t y. (r : ℕ) → t < p .states → p .firstRow t ≤ r → r < endRow p t → y ≤ rowValue p (entry (m .values)) r)
+              (raised (λ t y. (r : ℕ) → t < p .states → p .firstRow t ≤ r → r < endRow p t → y ≤ rowValue p (byState (m .values)) r)
               b (m .values) s x (λ t r. sound .under t r) (λ r l. best-under r) t r l low top)
               (row-values-rise e r);
           memory = λ r l. le-trans (scan-law .memory r l) (row-values-rise e r);

@@ -8,6 +8,7 @@ use mathlib.Core.List.{List, [], _∷_, _++_}
 use lib.ListN.{length, getD, take, length-append}
 use lib.Seq.{getD-take, take-suc, take-all, take-length, take-append-le, length-take-le}
 use Rattle.model.specs.Bytes.{u16At, u32At}
+use Rattle.model.specs.Limits.{giveUp, valueBound}
 use Rattle.model.specs.TableFiles.{numberBytes, tableBytes, bytes16, bytes32, listTo, entries16, entries32}
 
 -- lists of values
@@ -112,7 +113,7 @@ u32-next a b c d f i =
     )
     refl
 
-entry16 : (t : List ℕ) (i : ℕ) → i < length t → getD t i 0 < 65536 → u16At (bytes16 t) (2 * i) ≡ getD t i 0
+entry16 : (t : List ℕ) (i : ℕ) → i < length t → getD t i 0 ≤ giveUp → u16At (bytes16 t) (2 * i) ≡ getD t i 0
 unfolding tableBytes numberBytes u16At
 entry16 [] i l h = absurd (omega arith)
 entry16 (x ∷ t) zero l h = omega arith
@@ -120,7 +121,7 @@ entry16 (x ∷ t) (suc i) l h =
     let e : 2 * suc i ≡ suc (suc (2 * i)) = omega arith in
     rw e (u16-next (x % 256) (x / 256 % 256) (bytes16 t) (2 * i) ∙ entry16 t i (omega arith) h)
 
-entry32 : (t : List ℕ) (i : ℕ) → i < length t → getD t i 0 < 4294967296 → u32At (bytes32 t) (4 * i) ≡ getD t i 0
+entry32 : (t : List ℕ) (i : ℕ) → i < length t → getD t i 0 < valueBound → u32At (bytes32 t) (4 * i) ≡ getD t i 0
 unfolding tableBytes numberBytes u32At u16At
 entry32 [] i l h = absurd (omega arith)
 entry32 (x ∷ t) zero l h = omega arith
@@ -131,13 +132,13 @@ entry32 (x ∷ t) (suc i) l h =
     ∙ entry32 t i (omega arith) h)
 
 -- "reading back what was written gives the same table"
-pub read-back16 : (t : List ℕ) → ((i : ℕ) → i < length t → getD t i 0 < 65536) → entries16 (bytes16 t) ≡ t
+pub read-back16 : (t : List ℕ) → ((i : ℕ) → i < length t → getD t i 0 ≤ giveUp) → entries16 (bytes16 t) ≡ t
 unfolding entries16
 read-back16 t fits =
     let size : length (bytes16 t) / 2 ≡ length t = omega (arith, bytes-length 2 t) in
     rw size (list-whole (λ i. u16At (bytes16 t) (2 * i)) t (λ i l. entry16 t i l (fits i l)))
 
-pub read-back32 : (t : List ℕ) → ((i : ℕ) → i < length t → getD t i 0 < 4294967296) → entries32 (bytes32 t) ≡ t
+pub read-back32 : (t : List ℕ) → ((i : ℕ) → i < length t → getD t i 0 < valueBound) → entries32 (bytes32 t) ≡ t
 unfolding entries32
 read-back32 t fits =
     let size : length (bytes32 t) / 4 ≡ length t = omega (arith, bytes-length 4 t) in

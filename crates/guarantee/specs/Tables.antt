@@ -33,11 +33,6 @@ fill-entry g l (suc k) j long h = go (ℕ-discrete j k) (λ b. fill-entry g l k 
     go (yes e) ih = rw e (getD-set-same (fillTo g l k) k (g k) 0 (omega (arith, fill-length g l k)))
     go (no ne) ih = getD-set-other (fillTo g l k) k j (g k) 0 ne ∙ ih (omega arith)
 
-pub fill-beyond : (g : ℕ → ℕ) (l : List ℕ) (k j : ℕ) → k ≤ j → getD (fillTo g l k) j 0 ≡ getD l j 0
-unfolding fillTo
-fill-beyond g l zero j h = refl
-fill-beyond g l (suc k) j h = getD-set-other (fillTo g l k) k j (g k) 0 (omega arith) ∙ fill-beyond g l k j (omega arith)
-
 -- one entry more
 pub fill-next : (g : ℕ → ℕ) (l : List ℕ) (k : ℕ) → fillTo g l (k + 1) ≡ set (fillTo g l k) k (g k)
 unfolding fillTo

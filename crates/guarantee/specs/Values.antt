@@ -9,7 +9,7 @@ use Rattle.model.specs.Limits.{weightTotal, valueBound}
 use Rattle.model.specs.Problem.{Problem, Outcome, giveUpCost}
 use Rattle.model.specs.Value.{weightedSum, totalWeight, rowTicks, rowValue}
 use Rattle.model.specs.Walk.{In, here, there}
-use Rattle.guarantee.specs.Formed.{WellFormed}
+use Rattle.guarantee.specs.WellFormed.{WellFormed}
 
 -- what a row costs where its weights add to W: its own ticks and the rounded average over its outcomes
 abbrev pub average : ℕ → ℕ → List Outcome → (ℕ → ℕ) → ℕ
@@ -98,10 +98,6 @@ rowValue-rises-all p v w below r = rowValue-rises p r v w (λ o i. below (o .suc
 
 -- on the states of a problem that questions 1 to 11 let through
 module _ (p : Problem) (formed : WellFormed p) where
-  pub rowValue-rises-states : (v w : ℕ → ℕ) → ((s : ℕ) → s < p .states → v s ≤ w s)
-      → (r : ℕ) → r < p .rows → rowValue p v r ≤ rowValue p w r
-  rowValue-rises-states v w below r l = rowValue-rises p r v w (λ o i. below (o .successor) (formed .successor-state r l o i))
-
   pub rowValue-same-states : (v w : ℕ → ℕ) → ((s : ℕ) → s < p .states → v s ≡ w s)
       → (r : ℕ) → r < p .rows → rowValue p v r ≡ rowValue p w r
   rowValue-same-states v w same r l = rowValue-same p r v w (λ o i. same (o .successor) (formed .successor-state r l o i))

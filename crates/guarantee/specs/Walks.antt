@@ -15,7 +15,7 @@ use Rattle.model.specs.Problem.{Problem, Outcome, endRow, ownRow}
 use Rattle.model.specs.Search.{sumTo}
 use Rattle.model.specs.Walk.{In, here, there, nextOn, next, walk, Reached, at-start, along}
 use Rattle.model.specs.Walk.{pickCost, leastOn, leastTo, leastCost}
-use Rattle.guarantee.specs.Formed.{WellFormed}
+use Rattle.guarantee.specs.WellFormed.{WellFormed}
 use Rattle.guarantee.specs.Graphs.{sumOver, sumOver-each, sumTo-each, each, NoDup, no-dup, one-place}
 use Rattle.guarantee.specs.Graphs.{only, only-once, in-nil, in-cons}
 use Rattle.guarantee.specs.Graphs.{Whole, whole-walk, visit-same}
@@ -105,14 +105,8 @@ module _ (p : Problem) (formed : WellFormed p) where
     pub marks-binary : (s : ℕ) → getD (walk p picks .marks) s 0 ≤ 1
     marks-binary = walk-whole .binary
 
-    pub marks-length : length (walk p picks .marks) ≡ maxStates
-    marks-length = walk-whole .long
-
     pub marked-reached : (s : ℕ) → (getD (walk p picks .marks) s 0 ≡ 0 → ⊥) → Reached p picks s
     marked-reached s h = walk-whole .within s (omega (arith, marks-binary s))
-
-    pub marked-state : (s : ℕ) → (getD (walk p picks .marks) s 0 ≡ 0 → ⊥) → s < p .states
-    marked-state s h = reached-state s (marked-reached s h)
 
     -- the list: the reached states that are no goals, each once
     pub listed-reached : (s : ℕ) → In s (walk p picks .list) → Reached p picks s

@@ -1,7 +1,7 @@
 -- What questions 1 to 11 give: where the parts of the file lie within its bytes, and that the problem read off it is well formed.
 -- Each question's yes is turned into plain facts by the laws of searches and tests; the facts are collected in records.
 use mathlib.Core.Path.{_≡_, refl}
-use Prim.Native.Nat.{ℕ, _+_, _-_, _*_, _/_, _≤_, _<_}
+use Prim.Native.Nat.{ℕ, suc, _+_, _-_, _*_, _/_, _≤_, _<_}
 use native.Mathlib.Nat.{le-div-iff-mul-le, div-lt-iff-lt-mul}
 use native.Mathlib.Omega.{arith}
 use mathlib.Core.Bool.{Bool, true, false, _&&_, _||_}
@@ -11,21 +11,43 @@ use lib.ListN.{length}
 use borrow.Author.Tests.{leb-true, ltb-true, eqb-true, ne-eqb, not-true}
 use Rattle.model.specs.Bytes.{u16At}
 use Rattle.model.specs.Limits.{settingCount, maxStates, maxRows, maxOutcomes, maxTolerance, maxPenalty, maxSeconds, minRate, maxRate}
-use Rattle.model.specs.Limits.{weightTotal}
-use Rattle.model.specs.Problem.{Problem, Outcome, giveUpCost}
+use Rattle.model.specs.Limits.{stickSeconds, weightTotal}
+use Rattle.model.specs.Problem.{Problem, Outcome, giveUpCost, endRow}
 use Rattle.model.specs.Search.{sumTo}
-use Rattle.model.specs.Value.{totalWeight}
+use Rattle.model.specs.Value.{rowValue, totalWeight}
 use Rattle.model.specs.Sections.{sectionEnd, statesAt, rowsAt, outcomesAt, fileEnd, stateAt, rowCountOf, goalByteOf, firstRowOf, rowAt}
 use Rattle.model.specs.Sections.{kindOf, outcomeCountOf, costNumberOf, rateSeconds, secondsOn, firstOutcomeOf, outcomeAt, problemOf}
 use Rattle.model.specs.Questions.{passes, _then_, ask, between, sectionQuestions, endQuestion, layoutQuestions, settingQuestions}
 use Rattle.model.specs.Questions.{stateObeys, stateQuestion, startQuestion, rowNumberQuestion, costObeys, rowObeys, rowQuestion}
 use Rattle.model.specs.Questions.{outcomeNumberQuestion, outcomesObey, outcomeQuestion, estimateQuestion, itemQuestions, fileQuestions}
 use Rattle.model.specs.Walk.{In, here, there}
-use Rattle.guarantee.specs.Formed.{WellFormed}
 use Rattle.guarantee.specs.Searches.{and-left, and-right, or-skip, then-first, then-next, ask-yes, ask-each-yes, sum-monotone}
 use Rattle.guarantee.specs.Searches.{sum-room}
 use Rattle.guarantee.specs.Undercuts.{undercut-none}
 use Rattle.guarantee.specs.Parts.{outcomeObeys}
+
+-- what questions 1 to 11 give of a problem, with names: whoever holds this looks at no byte again
+pub record WellFormed (p : Problem) : Type 0 where
+  pub start-state : p .start < p .states
+  pub start-open : p .goal (p .start) ≡ false
+  pub tolerance-low : 1 ≤ p .tolerance
+  pub tolerance-high : p .tolerance ≤ maxTolerance
+  pub penalty-low : 1 ≤ p .penalty
+  pub penalty-high : p .penalty ≤ maxPenalty
+  pub states-high : p .states ≤ maxStates
+  pub rows-high : p .rows ≤ maxRows
+  pub rows-start : p .firstRow 0 ≡ 0
+  pub rows-follow : (s : ℕ) → p .firstRow (suc s) ≡ endRow p s
+  pub rows-end : p .firstRow (p .states) ≡ p .rows
+  pub goal-rows : (s : ℕ) → s < p .states → p .goal s ≡ true → p .rowCount s ≡ 0
+  pub goal-estimate : (s : ℕ) → s < p .states → p .goal s ≡ true → p .estimate s ≡ 0
+  pub estimate-high : (s : ℕ) → s < p .states → p .estimate s ≤ giveUpCost p
+  pub cost-low : (r : ℕ) → r < p .rows → 1 ≤ p .cost r
+  pub cost-high : (r : ℕ) → r < p .rows → p .cost r ≤ maxSeconds
+  pub successor-state : (r : ℕ) → r < p .rows → (o : Outcome) → In o (p .outcomes r) → o .successor < p .states
+  pub weight-low : (r : ℕ) → r < p .rows → (o : Outcome) → In o (p .outcomes r) → 1 ≤ o .weight
+  pub weights : (r : ℕ) → r < p .rows → totalWeight (p .outcomes r) ≡ weightTotal
+  pub estimate-under : (s r : ℕ) → s < p .states → p .firstRow s ≤ r → r < endRow p s → p .estimate s ≤ rowValue p (p .estimate) r
 
 -- a section's count bytes and items are there, and its count is in range
 pub record SectionThere (size low high : ℕ) (f : List ℕ) (i : ℕ) : Type 0 where
@@ -229,7 +251,7 @@ rate-low r low = le-div-iff-mul-le {k = r} (omega arith) .1 (omega arith)
 pub rate-high : (r : ℕ) → minRate ≤ r → rateSeconds r ≤ maxSeconds
 unfolding rateSeconds
 rate-high r low =
-    let l : (600000 + (r - 1)) / r < 65536 = div-lt-iff-lt-mul {k = r} (omega arith) .1 (omega arith) in
+    let l : (stickSeconds + (r - 1)) / r < maxSeconds + 1 = div-lt-iff-lt-mul {k = r} (omega arith) .1 (omega arith) in
     omega arith
 
 seconds-range : (b : Bool) (n : ℕ) → costObeys b n ≡ true → (1 ≤ secondsOn b n) × (secondsOn b n ≤ maxSeconds)
@@ -281,13 +303,6 @@ module _ (f : List ℕ) (h : fileQuestions f ≡ passes) where
   outcome-yes : (r : ℕ) → r < problemOf f .rows → (o : Outcome) → In o (problemOf f .outcomes r)
       → outcomeObeys (problemOf f .states) o ≡ true
   outcome-yes r l o i = outcome-obeys (problemOf f .states) i (and-left _ _ (outcomes-yes r l))
-
-  -- each row has an outcome at least
-  pub outcome-count-low : (r : ℕ) → r < problemOf f .rows → 1 ≤ outcomeCountOf f r
-  outcome-count-low r l =
-      leb-true _ _
-      (and-left (leb 1 (outcomeCountOf f r)) (costObeys (eqb (kindOf f r) 0) (costNumberOf f r))
-      (row-obeys (kindOf f r) (outcomeCountOf f r) (costNumberOf f r) (row-yes r l)))
 
   cost-range : (r : ℕ) → r < problemOf f .rows → (1 ≤ problemOf f .cost r) × (problemOf f .cost r ≤ maxSeconds)
   unfolding problemOf

@@ -9,7 +9,7 @@ use Rattle.model.specs.Limits.{giveUp}
 use Rattle.model.specs.Problem.{Problem, giveUpCost, ownRow}
 use Rattle.model.specs.Search.{first}
 use Rattle.model.specs.Sections.{problemOf}
-use Rattle.model.specs.Value.{rowValue, entry}
+use Rattle.model.specs.Value.{rowValue, byState}
 use Rattle.model.specs.Questions.{Verdict, passes, fails, fileQuestions, undercutRow, undercutState}
 use Rattle.model.specs.Walk.{walk, leastCost}
 
@@ -71,7 +71,7 @@ tableQuestions p v picks =
 unfoldable pub problemAudit : Problem → List ℕ → List ℕ → Audited
 problemAudit p values picks =
     orElse (leb (p .states) (length values)) (refused 15 0 (pos 0))
-    (orElse (leb (p .states) (length picks)) (refused 15 1 (pos 0)) (tableQuestions p (entry values) (entry picks)))
+    (orElse (leb (p .states) (length picks)) (refused 15 1 (pos 0)) (tableQuestions p (byState values) (byState picks)))
 
 abbrev pub auditOn : Verdict → Problem → List ℕ → List ℕ → Audited
 auditOn passes p values picks = problemAudit p values picks

@@ -1,6 +1,6 @@
 -- What a lent buffer or table holds once something was put at its front, entries beyond it included.
 use mathlib.Core.Path.{_≡_}
-use Prim.Native.Nat.{ℕ, _+_, _*_, min}
+use Prim.Native.Nat.{ℕ, _+_, _*_, _≤_}
 use mathlib.Core.List.{List, _++_}
 use lib.ListN.{length, take, drop}
 use Rattle.model.specs.Limits.{maxStates}
@@ -9,10 +9,12 @@ use Rattle.model.specs.Limits.{maxStates}
 abbrev pub copied : {A : Type 0} → List A → List A → List A
 copied from to = take (length to) from ++ drop (length from) to
 
--- a text was put at the front of a buffer, and n entries of it fitted
+-- a text was put at the front of a buffer: its first n entries are the text, cut where the buffer ends, and all others are as before
 pub record Holds (before after : List ℕ) (n : ℕ) (text : List ℕ) : Type 0 where
-  pub after-is : after ≡ copied text before
-  pub size-is : n ≡ min (length text) (length before)
+  pub long : length after ≡ length before
+  pub within : n ≤ length after
+  pub front : take n after ≡ take (length after) text
+  pub rest : drop n after ≡ drop n before
 
 -- room for the longest first line of `plan` and line of `audit`, and for the longest line of a state, whose number has at most 4 digits
 abbrev pub lineMost : ℕ

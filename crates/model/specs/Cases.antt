@@ -9,7 +9,7 @@ use Rattle.model.specs.Bytes.{u16At, u32At}
 use Rattle.model.specs.Limits.{planRounds}
 use Rattle.model.specs.Problem.{Problem, Outcome}
 use Rattle.model.specs.Search.{first, sumTo}
-use Rattle.model.specs.Value.{entry, weightedSum, totalWeight, rowValue}
+use Rattle.model.specs.Value.{byState, weightedSum, totalWeight, rowValue}
 use Rattle.model.specs.Sections.{statesAt, rowsAt, outcomesAt, fileEnd, rateSeconds, secondsOn, outcomesFrom, problemOf}
 use Rattle.model.specs.Questions.{passes, fails, sectionQuestions, endQuestion, layoutQuestions, settingQuestions, stateObeys}
 use Rattle.model.specs.Questions.{stateQuestion, startQuestion, rowNumberQuestion, costObeys, rowObeys, rowQuestion}
@@ -102,7 +102,7 @@ rowWith os =
 
 -- what outcomes average to under a table: the value of that row
 abbrev pub averageOf : List Outcome → List ℕ → ℕ
-averageOf os table = rowValue (rowWith os) (entry table) 0
+averageOf os table = rowValue (rowWith os) (byState table) 0
 
 abbrev pub All : List (Type 0) → Type 0
 All [] = Unit {0}

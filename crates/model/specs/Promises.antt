@@ -7,11 +7,10 @@ use lib.IntN.{ℤ, pos, negsuc}
 use lib.ListN.{length, replicate, take}
 use Rattle.model.specs.Limits.{maxStates, maxRows, listEnd, planRounds}
 use Rattle.model.specs.Problem.{Problem}
-use Rattle.model.specs.Value.{entry}
 use Rattle.model.specs.Sections.{problemOf}
 use Rattle.model.specs.Questions.{passes, fileQuestions}
 use Rattle.model.specs.Walk.{Reached}
-use Rattle.model.specs.Solution.{Tables, Solution, solveQuestions, solution}
+use Rattle.model.specs.Solution.{Tables, tables, Solution, solveQuestions, solution}
 use Rattle.model.specs.Audit.{accepted, audit}
 use Rattle.model.specs.Cover.{Choice, Cover, planOf, allowance, openTo}
 use Rattle.model.specs.Carried.{Said, Carried}
@@ -60,8 +59,7 @@ pub record ExcessFits (e q : ℕ) (z : ℤ) : Type 0 where
 -- the walk list
 abbrev pub planSolution : List ℕ → List ℕ → List ℕ → Solution
 planSolution f values picks =
-    solution f planRounds
-    (record { values = values; picks = picks; remembered = replicate maxRows 0; walk-list = replicate maxStates listEnd })
+    solution f planRounds (tables values picks (replicate maxRows 0) (replicate maxStates listEnd))
 
 -- the text was put at the front of `out`, whole where there is room for every text; the tables are those of the solution; the number of
 -- states that is told is 0 after a refusal, and lies within both tables

@@ -6,7 +6,7 @@ use lib.Dec.{leb, ltb, eqb}
 use lib.ListN.{getD, set, length, drop, replicate}
 use Rattle.model.specs.Limits.{giveUp, noPick, listEnd}
 use Rattle.model.specs.Problem.{Problem, giveUpCost, ownRow}
-use Rattle.model.specs.Value.{rowValue, entry}
+use Rattle.model.specs.Value.{rowValue, byState}
 use Rattle.model.specs.Walk.{walk}
 
 -- a scan so far: best, the pick, the evaluations counted, and what each row remembers
@@ -60,7 +60,7 @@ abbrev pub scanStart : Problem → Machine → Found
 scanStart p m = record { best = giveUpCost p; pick = giveUp; count = m .evaluations; remembered = m .remembered }
 
 abbrev pub scanOf : Problem → ℕ → Machine → Found
-scanOf p s m = scan p (entry (m .values)) s (getD (m .picks) s 0) (scanStart p m)
+scanOf p s m = scan p (byState (m .values)) s (getD (m .picks) s 0) (scanStart p m)
 
 -- "If best − V(s) is at least e, V(s) becomes best."
 unfoldable pub raiseOn : Bool → List ℕ → ℕ → ℕ → List ℕ
@@ -96,13 +96,13 @@ walked p m =
       values = m .values;
       picks = m .picks;
       remembered = m .remembered;
-      list = walk p (entry (m .picks)) .list;
+      list = walk p (byState (m .picks)) .list;
       evaluations = m .evaluations;
       moved = false;
     }
 
 unfoldable pub round : Problem → ℕ → Machine → Machine
-round p e m = backups p e (walk p (entry (m .picks)) .list) (walked p m)
+round p e m = backups p e (walk p (byState (m .picks)) .list) (walked p m)
 
 -- how a run ends: the rounds done, and the machine as it is left
 pub data Ending : Type 0 where

@@ -8,7 +8,7 @@ use lib.ListN.{getD, length}
 use Rattle.model.specs.Limits.{maxBudget, valueBound}
 use Rattle.model.specs.Problem.{Problem, ownRow}
 use Rattle.model.specs.Sections.{problemOf}
-use Rattle.model.specs.Value.{rowValue, entry}
+use Rattle.model.specs.Value.{rowValue, byState}
 use Rattle.model.specs.Questions.{Verdict, passes, fails, _then_, ask, fileQuestions}
 use Rattle.model.specs.Walk.{walk, leastCost}
 use Rattle.model.specs.Rounds.{Found, Machine, Ending, evaluate, scanStart, settle, walked, machineStart, listTable}
@@ -33,7 +33,7 @@ checkedEvaluate false q r m a = over r m
 unfoldable pub checkedConsiderOn : Bool → Problem → ℕ → Machine → Found → Checked Found
 checkedConsiderOn true p r m a = fine a
 checkedConsiderOn false p r m a =
-    let q = rowValue p (entry (m .values)) r in checkedEvaluate (ltb q valueBound) q r m a
+    let q = rowValue p (byState (m .values)) r in checkedEvaluate (ltb q valueBound) q r m a
 
 unfoldable pub checkedConsider : Problem → ℕ → Machine → Found → Checked Found
 checkedConsider p r m a = checkedConsiderOn (leb (a .best) (getD (a .remembered) r 0)) p r m a
@@ -59,7 +59,7 @@ checkedBackups p e [] m = fine m
 checkedBackups p e (s ∷ ss) m = onwards (checkedBackup p e s m) (checkedBackups p e ss)
 
 unfoldable pub checkedRound : Problem → ℕ → Machine → Checked Machine
-checkedRound p e m = checkedBackups p e (walk p (entry (m .picks)) .list) (walked p m)
+checkedRound p e m = checkedBackups p e (walk p (byState (m .picks)) .list) (walked p m)
 
 unfoldable pub checkedRunFrom : Problem → ℕ → ℕ → Bool → ℕ → Machine → Checked Ending
 checkedRunFrom p e zero true n m = fine (Ending.spent n m)
@@ -101,7 +101,7 @@ tablesOf p lent m =
 
 unfoldable pub solutionOf : Problem → List ℕ → Checked Ending → Solution
 solutionOf p lent (fine (Ending.solved n m)) =
-    record { answer = solved n (m .evaluations) (leastCost p (entry (m .picks))); tables = tablesOf p lent m }
+    record { answer = solved n (m .evaluations) (leastCost p (byState (m .picks))); tables = tablesOf p lent m }
 solutionOf p lent (fine (Ending.spent n m)) = record { answer = spent n (m .evaluations); tables = tablesOf p lent m }
 solutionOf p lent (over r m) = record { answer = refused 14 r; tables = tablesOf p lent m }
 

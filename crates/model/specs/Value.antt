@@ -6,8 +6,8 @@ use Rattle.model.specs.Limits.{ticksPerSecond, weightTotal}
 use Rattle.model.specs.Problem.{Problem, Outcome}
 
 -- a table V, read as a function of the state
-abbrev pub entry : List ℕ → ℕ → ℕ
-entry l = λ s. getD l s 0
+abbrev pub byState : List ℕ → ℕ → ℕ
+byState l = λ s. getD l s 0
 
 -- the sum of w × V(successor); no product is rounded
 unfoldable pub weightedSum : List Outcome → (ℕ → ℕ) → ℕ

@@ -36,6 +36,16 @@ pub const LIST_END: u16 = 65535;
 
 pub const MAX_BUDGET: u64 = 2000000000000000;
 
+// "The program `plan` .. runs up to 1,000,000 rounds."
+pub const PLAN_ROUNDS: u64 = 1000000;
+
+// The longest first line of `plan` and line of `audit`, the longest line of a state, and room for the text of every plan.
+pub const LINE_MOST: usize = 73;
+
+pub const STATE_MOST: usize = 22;
+
+pub const PLAN_ROOM: usize = LINE_MOST + STATE_MOST * MAX_STATES;
+
 // A row value at least this does not fit in 32 bits.
 pub const VALUE_BOUND: u64 = 4294967296;
 

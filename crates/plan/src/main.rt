@@ -6,25 +6,26 @@ use libc::STDIN_FILENO;
 use libc::STDOUT_FILENO;
 use model::MAX_STATES;
 use model::NO_PICK;
-use printing::files::fail;
-use printing::files::read_whole;
-use printing::tables::put_picks;
-use printing::tables::put_values;
+use model::PLAN_ROOM;
+use printing::table_files::VALUE_BYTES;
+use printing::table_files::put_picks;
+use printing::table_files::put_values;
 use printing::text::put;
+use programs::files::fail;
+use programs::files::read_whole;
 ghost use mathlib.Core.Path.{_≡_};
 ghost use mathlib.Core.List.{_++_};
+ghost use Rattle.model.specs.Buffers.{Holds};
 ghost use Rattle.model.specs.Lines.{codes};
-ghost use Rattle.printing.specs.Texts.{Holds};
 ghost use Rattle.plan.specs.Names.{sameName, clashing};
 
-// Room for the text of a plan, whatever the file: 73 bytes for the first line and 22 for each state.
-const ROOM: usize = 32 * MAX_STATES;
+// Room for the bytes of either table: a value has more of them than a pick.
+const TABLE: usize = VALUE_BYTES * MAX_STATES;
 
-// Room for the bytes of a table: 4 for each state.
-const TABLE: usize = 4 * MAX_STATES;
+// Room for the longest argument that is read, that of `io::buffer`, and for `.part` after it.
+const NAME: usize = 4096;
 
-// Room for the longest argument that is read, 4,096 bytes, and `.part`.
-const PART: usize = 4200;
+const PART: usize = NAME + 5;
 
 fn complain(text: &[u8]) {
     io::write_all(STDERR_FILENO, text);
@@ -78,7 +79,7 @@ fn place(name: &[u8], part: &[u8]) -> bool {
 
 // The name of a part file: the table's name and `.part`.
 fn part_of(name: &[u8], part: &mut [u8]) -> usize
-    ensures { λ r. ⌜ Holds (now (part .exit)) r (now (name .entry) ++ codes ".part") ⌝ }
+    ensures { λ r. ⌜ Holds (now (part .entry)) (now (part .exit)) r (now (name .entry) ++ codes ".part") ⌝ }
 {
     let n = put(part, 0, name);
     put(part, n, b".part")
@@ -187,8 +188,8 @@ fn plan_input(is_saving: bool) {
     let n = got.length;
     let mut values = [0u32; MAX_STATES];
     let mut picks = [NO_PICK; MAX_STATES];
-    let mut out = [0u8; ROOM];
-    let planned = printing::plan(&file[..n], &mut values, &mut picks, &mut out);
+    let mut out = [0u8; PLAN_ROOM];
+    let planned = programs::plan(&file[..n], &mut values, &mut picks, &mut out);
     let length = planned.length;
     let states = planned.states;
     if !io::write_all(STDOUT_FILENO, &out[..length]) {

@@ -4,12 +4,12 @@ use Prim.Native.Nat.{ℕ, _+_, _-_, _≤_, _<_}
 use native.Mathlib.Omega.{arith}
 use native.Mathlib.Numerals.{add-one}
 use mathlib.Core.List.{List, [], _∷_, _++_, append-assoc, append-nil}
-use lib.ListN.{length, getD, set, take, length-set}
-use lib.Seq.{take-suc, take-suc-set, take-all}
+use lib.ListN.{length, getD, set, take, drop, length-set}
+use lib.Seq.{take-suc, take-suc-set, take-all, drop-set-lt}
 use Rattle.model.specs.TableFiles.{numberBytes, tableBytes, listTo}
 use Rattle.guarantee.specs.TableFiles.{list-length, list-front}
-use Rattle.printing.specs.Texts.{Holds}
-use Rattle.printing.proofs.Putting.{more, stands}
+use Rattle.model.specs.Buffers.{Holds}
+use Rattle.printing.proofs.Putting.{further, more, stands}
 
 -- bytes
 
@@ -24,58 +24,76 @@ bytes-one : (width x : ℕ) → tableBytes width (x ∷ []) ≡ numberBytes widt
 unfolding tableBytes
 bytes-one width x = append-nil (numberBytes width x)
 
-module _ (width : ℕ) (table : List ℕ) where
-  pub bytes-start : (out : List ℕ) → Holds out 0 (tableBytes width (take 0 table))
+-- the loop that puts the bytes of the first i entries of a table
+pub record Tabled (width : ℕ) (table out₀ out : List ℕ) (to i : ℕ) : Type 0 where
+  pub there : i ≤ length table
+  pub put : Holds out₀ out to (tableBytes width (take i table))
+
+module _ {width : ℕ} {table out₀ : List ℕ} where
+  pub bytes-start : Tabled width table out₀ out₀ 0 0
   unfolding tableBytes
-  bytes-start out = stands out 0 (omega arith)
+  bytes-start = record { there = omega arith; put = stands out₀ 0 (omega arith) }
 
-  pub bytes-go-on
-      : (out out′ : List ℕ) (to to′ i : ℕ) → i < length table → length out′ ≡ length out → Holds out to (tableBytes width (take i table))
-      → Holds out′ to′ (take to out ++ numberBytes width (getD table i 0)) → Holds out′ to′ (tableBytes width (take (i + 1) table))
-  bytes-go-on out out′ to to′ i l long h k =
-      rw (add-one i, take-suc table i 0 l, bytes-append width (take i table) (getD table i 0 ∷ []), bytes-one width (getD table i 0))
-      (more out out′ (tableBytes width (take i table)) (numberBytes width (getD table i 0)) to to′ long h k)
+  module _ {out : List ℕ} {to i : ℕ} (h : Tabled width table out₀ out to i) where
+    pub bytes-go-on
+        : {out′ : List ℕ} {to′ : ℕ} → i < length table → Holds out out′ to′ (take to out ++ numberBytes width (getD table i 0))
+        → Tabled width table out₀ out′ to′ (i + 1)
+    bytes-go-on l k =
+        let x = getD table i 0 in
+        record {
+          there = omega arith;
+          put =
+              rw (add-one i, take-suc table i 0 l, bytes-append width (take i table) (x ∷ []), bytes-one width x)
+              (more (numberBytes width x) (h .put) k);
+        }
 
-  pub bytes-end
-      : (out : List ℕ) (to i : ℕ) → length table ≤ i → Holds out to (tableBytes width (take i table))
-      → Holds out to (tableBytes width table)
-  bytes-end out to i l h = rw (take-all i table l) at h
+    pub bytes-end : length table ≤ i → Holds out₀ out to (tableBytes width table)
+    bytes-end l = rw (take-all i table l) at (h .put)
 
 -- entries
 
--- the loop that reads k of n entries into a table
+-- the loop that reads k of n entries into a table, the rest of which is as it was
 pub record Read (g : ℕ → ℕ) (n : ℕ) (table₀ table : List ℕ) (k : ℕ) : Type 0 where
   pub there : k ≤ n
   pub room : k ≤ length table
   pub long : length table ≡ length table₀
   pub read : take k table ≡ listTo g k
+  pub rest : drop k table ≡ drop k table₀
 
-module _ (g : ℕ → ℕ) (n : ℕ) (table₀ : List ℕ) where
+module _ {g : ℕ → ℕ} {n : ℕ} {table₀ : List ℕ} where
   pub read-starts : Read g n table₀ table₀ 0
   unfolding listTo
-  read-starts = record { there = omega arith; room = omega arith; long = refl; read = refl }
+  read-starts = record { there = omega arith; room = omega arith; long = refl; read = refl; rest = refl }
 
-  module _ (table : List ℕ) (k : ℕ) where
-    pub read-goes-on : {x : ℕ} → x ≡ g k → k < n → k < length table → Read g n table₀ table k → Read g n table₀ (set table k x) (k + 1)
+  module _ {table : List ℕ} {k : ℕ} (h : Read g n table₀ table k) where
+    pub read-goes-on : {x : ℕ} → x ≡ g k → k < n → k < length table → Read g n table₀ (set table k x) (k + 1)
     unfolding listTo
-    read-goes-on {x} e l r h =
+    read-goes-on {x} e l r =
         record {
           there = omega arith;
           room = omega (arith, length-set table k x);
           long = length-set table k x ∙ h .long;
           read = rw (add-one k, take-suc-set table k x r, h .read, e) refl;
+          rest = drop-set-lt (k + 1) table k x (omega arith) ∙ further table₀ table k (k + 1) (omega arith) (h .rest);
         }
 
     -- the table is full, or all entries are read
-    pub read-full : length table ≤ k → Read g n table₀ table k → Holds table k (listTo g n)
-    read-full l h =
+    pub read-full : length table ≤ k → Holds table₀ table k (listTo g n)
+    read-full l =
         let e : length table ≡ k = omega (arith, h .room) in
-        record { within = h .room; front = h .read ∙ rw e (sym (list-front g k n (h .there))) }
+        record {
+          long = h .long;
+          within = h .room;
+          front = h .read ∙ rw e (sym (list-front g k n (h .there)));
+          rest = h .rest;
+        }
 
-    pub read-ends : n ≤ k → Read g n table₀ table k → Holds table k (listTo g n)
-    read-ends l h =
+    pub read-ends : n ≤ k → Holds table₀ table k (listTo g n)
+    read-ends l =
         let e : k ≡ n = omega (arith, h .there) in
         record {
+          long = h .long;
           within = h .room;
           front = (h .read ∙ rw e refl) ∙ sym (take-all (length table) (listTo g n) (omega (arith, list-length g n, h .room)));
+          rest = h .rest;
         }

@@ -8,8 +8,7 @@ use mathlib.Core.Bool.{Bool, true, false}
 use mathlib.Core.List.{List, [], _∷_, _++_}
 use lib.Dec.{ltb, eqb}
 use lib.IntN.{ℤ, pos, negsuc}
-use lib.ListN.{length, getD, take, length-append}
-use lib.Seq.{take-all}
+use lib.ListN.{length, getD, length-append}
 use lib.Signed.{mag}
 use borrow.Author.Tests.{ltb-false}
 use Rattle.model.specs.Limits.{giveUp, maxStates}
@@ -17,7 +16,9 @@ use Rattle.model.specs.Lines.{codes, decimalOn, decimalFrom, decimal, blankNumb
 use Rattle.model.specs.Lines.{listed, stateLine, stateLines, runText}
 use Rattle.model.specs.Audit.{Audited, accepted}
 use Rattle.model.specs.Solution.{Answer, solved, spent, refused}
-use Rattle.printing.specs.Texts.{Holds, Brief, lineMost, stateMost}
+use Rattle.model.specs.Buffers.{lineMost, stateMost}
+use Rattle.printing.specs.Texts.{Brief}
+use Rattle.printing.proofs.Widths.{bits16, bits32, bits63, bits64}
 
 digits-most : (fuel k n : ℕ) → n < 10 ^ suc k → length (decimalFrom fuel n) ≤ suc k
 unfolding decimalFrom
@@ -39,19 +40,19 @@ unfolding decimal
 decimal-most k n h = digits-most (suc n) k n h
 
 -- numbers of 64 bits
-wide-most : (n : ℕ) → n < 18446744073709551616 → length (decimal n) ≤ 20
+wide-most : (n : ℕ) → n < bits64 → length (decimal n) ≤ 20
 wide-most n h = decimal-most 19 n (omega arith)
 
 two-most : (a b c : List ℕ) (n m k : ℕ) → length a ≤ n → length b ≤ m → length c ≤ k → length (a ++ b ++ c) ≤ n + m + k
 two-most a b c n m k p q r = omega (arith, length-append (a ++ b) c, length-append a b)
 
-pub counts-most : (word : List ℕ) (a b : ℕ) → length word ≤ 8 → a < 18446744073709551616 → b < 18446744073709551616
+pub counts-most : (word : List ℕ) (a b : ℕ) → length word ≤ 8 → a < bits64 → b < bits64
     → length (word ++ blankNumber a ++ blankNumber b) ≤ 50
 counts-most word a b w p q =
     two-most word (blankNumber a) (blankNumber b) 8 21 21 w (omega (arith, wide-most a p)) (omega (arith, wide-most b q))
 
 -- the lines with one answer
-pub solved-most : (r e C : ℕ) → r < 18446744073709551616 → e < 18446744073709551616 → C < 18446744073709551616
+pub solved-most : (r e C : ℕ) → r < bits64 → e < bits64 → C < bits64
     → length (answerLine (solved r e C)) ≤ lineMost
 unfolding answerLine
 solved-most r e C p q w =
@@ -61,7 +62,7 @@ solved-most r e C p q w =
           (counts-most (codes "solved") r e (omega arith) p q) (omega (arith, wide-most C w)) (omega arith),
     )
 
-pub spent-most : (r e : ℕ) → r < 18446744073709551616 → e < 18446744073709551616 → length (answerLine (spent r e)) ≤ lineMost
+pub spent-most : (r e : ℕ) → r < bits64 → e < bits64 → length (answerLine (spent r e)) ≤ lineMost
 unfolding answerLine
 spent-most r e p q =
     omega (
@@ -70,7 +71,7 @@ spent-most r e p q =
       counts-most (codes "spent") r e (omega arith) p q,
     )
 
-pub refused-most : (q i : ℕ) → q < 18446744073709551616 → i < 18446744073709551616 → length (answerLine (refused q i)) ≤ lineMost
+pub refused-most : (q i : ℕ) → q < bits64 → i < bits64 → length (answerLine (refused q i)) ≤ lineMost
 unfolding answerLine
 refused-most q i p r =
     omega (
@@ -79,7 +80,7 @@ refused-most q i p r =
       counts-most (codes "refused") q i (omega arith) p r,
     )
 
-pub accepted-most : (C : ℕ) → C < 18446744073709551616 → length (auditLine (accepted C)) ≤ lineMost
+pub accepted-most : (C : ℕ) → C < bits64 → length (auditLine (accepted C)) ≤ lineMost
 unfolding auditLine
 accepted-most C p =
     omega (
@@ -87,11 +88,11 @@ accepted-most C p =
       two-most (codes "accepted") (blankNumber C) (codes "\n") 8 21 1 (omega arith) (omega (arith, wide-most C p)) (omega arith),
     )
 
-signed-most : (x : ℤ) → mag x < 9223372036854775808 → length (blankSigned x) ≤ 22
+signed-most : (x : ℤ) → mag x < bits63 → length (blankSigned x) ≤ 22
 signed-most (pos n) h = omega (arith, wide-most n (omega arith))
 signed-most (negsuc n) h = omega (arith, wide-most (suc n) (omega arith))
 
-pub audit-refused-most : (q i : ℕ) (x : ℤ) → q < 18446744073709551616 → i < 18446744073709551616 → mag x < 9223372036854775808
+pub audit-refused-most : (q i : ℕ) (x : ℤ) → q < bits64 → i < bits64 → mag x < bits63
     → length (auditLine (Audited.refused q i x)) ≤ lineMost
 unfolding auditLine
 audit-refused-most q i x p r w =
@@ -102,11 +103,11 @@ audit-refused-most q i x p r w =
     )
 
 -- the lines of the states
-pick-most : (b : Bool) (r : ℕ) → r < 65536 → length (pickOn b r) ≤ 7
+pick-most : (b : Bool) (r : ℕ) → r < bits16 → length (pickOn b r) ≤ 7
 pick-most true r h = omega arith
 pick-most false r h = omega (arith, length-append (blankNumber r) (codes "\n"), decimal-most 4 r (omega arith))
 
-state-most : (s v r : ℕ) → s < 10000 → v < 4294967296 → r < 65536 → length (stateLine s v r) ≤ stateMost
+state-most : (s v r : ℕ) → s < maxStates → v < bits32 → r < bits16 → length (stateLine s v r) ≤ stateMost
 unfolding stateLine
 state-most s v r p q w =
     omega (
@@ -119,7 +120,7 @@ line-most : (b : Bool) (line : List ℕ) (n : ℕ) → length line ≤ n → len
 line-most true line n h = h
 line-most false line n h = omega arith
 
-module _ (values picks walk : List ℕ) (values-fit : (j : ℕ) → getD values j 0 < 4294967296) (picks-fit : (j : ℕ) → getD picks j 0 < 65536)
+module _ (values picks walk : List ℕ) (values-fit : (j : ℕ) → getD values j 0 < bits32) (picks-fit : (j : ℕ) → getD picks j 0 < bits16)
   where
     lines-most : (k : ℕ) → k ≤ maxStates → length (stateLines values picks walk k) ≤ stateMost * k
     unfolding stateLines
@@ -131,7 +132,3 @@ module _ (values picks walk : List ℕ) (values-fit : (j : ℕ) → getD values 
 
     pub run-most : (a : Answer) (n : ℕ) → length (answerLine a) ≤ lineMost → Brief (runText a values picks walk n) n
     run-most a n first h = omega (arith, length-append (answerLine a) (stateLines values picks walk n), first, lines-most n h)
-
--- a text that fits is not cut
-pub uncut : (out text : List ℕ) (n : ℕ) → Holds out n text → length text ≤ length out → take n out ≡ text
-uncut out text n h l = h .front ∙ take-all (length out) text l

@@ -1,8 +1,8 @@
 -- Laws that the proofs of `printing` cite.
+pub mod Widths
 pub mod Putting
-pub mod Decimals
+pub mod Digits
 pub mod Signed
 pub mod Listing
 pub mod Entries
-pub mod Planning
 pub mod Lengths

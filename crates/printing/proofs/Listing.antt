@@ -10,9 +10,9 @@ use lib.ListN.{length, getD, set, take, drop, replicate, drop-of-length-le}
 use lib.Seq.{drop-cons}
 use borrow.Author.Tests.{eq-eqb, ne-eqb}
 use Rattle.model.specs.Limits.{giveUp, maxStates}
-use Rattle.model.specs.Lines.{codes, decimal, blankNumber, listed, lineOn, stateLine, stateLines}
+use Rattle.model.specs.Lines.{codes, decimal, blankNumber, pickOn, listed, lineOn, stateLine, stateLines}
 use Rattle.guarantee.specs.Graphs.{set-entry, clear-entry}
-use Rattle.printing.specs.Texts.{Holds}
+use Rattle.model.specs.Buffers.{Holds}
 use Rattle.printing.proofs.Putting.{after, same, stands}
 
 module _ (s : ℕ) (walk : List ℕ) (k : ℕ) where
@@ -56,56 +56,56 @@ unfolding stateLines
 lines-next values picks walk k = rw add-one
 
 -- the loop over the states: the lines of the first s stand after the front of `out₀`
-module _ (values picks walk out₀ : List ℕ) (at : ℕ) where
-  pub lines-start : at ≤ length out₀ → Holds out₀ at (take at out₀ ++ stateLines values picks walk 0)
+pub record Lined (values picks walk out₀ : List ℕ) (at : ℕ) (out : List ℕ) (to s : ℕ) : Type 0 where
+  pub there : s ≤ length walk
+  pub put : Holds out₀ out to (take at out₀ ++ stateLines values picks walk s)
+
+module _ {values picks walk out₀ : List ℕ} {at : ℕ} where
+  pub lines-start : at ≤ length out₀ → Lined values picks walk out₀ at out₀ at 0
   unfolding stateLines
-  lines-start h = same out₀ (take at out₀) (take at out₀ ++ []) at (sym (append-nil (take at out₀))) (stands out₀ at h)
+  lines-start h = record { there = omega arith; put = same (sym (append-nil (take at out₀))) (stands out₀ at h) }
 
-  pub lines-go-on
-      : (out out′ : List ℕ) (to to′ s : ℕ) → length out′ ≡ length out → Holds out to (take at out₀ ++ stateLines values picks walk s)
-      → (b : Bool) → b ≡ listed s walk → Holds out′ to′ (take to out ++ lineOn b (stateLine s (getD values s 0) (getD picks s 0)))
-      → Holds out′ to′ (take at out₀ ++ stateLines values picks walk (s + 1))
-  lines-go-on out out′ to to′ s long h b told k =
-      rw (lines-next values picks walk s)
-      (after out out′ (take at out₀) (stateLines values picks walk s)
-      (lineOn (listed s walk) (stateLine s (getD values s 0) (getD picks s 0))) to to′ long h (rw told at k))
+  module _ {out : List ℕ} {to s : ℕ} (h : Lined values picks walk out₀ at out to s) where
+    pub lines-go-on
+        : {out′ : List ℕ} {to′ : ℕ} {b : Bool} → s < length walk → b ≡ listed s walk
+        → Holds out out′ to′ (take to out ++ lineOn b (stateLine s (getD values s 0) (getD picks s 0)))
+        → Lined values picks walk out₀ at out′ to′ (s + 1)
+    lines-go-on l told k =
+        record {
+          there = omega arith;
+          put = rw (lines-next values picks walk s) (after (take at out₀) (stateLines values picks walk s) _ (h .put) (rw told at k));
+        }
 
-  pub lines-end
-      : (out : List ℕ) (to s : ℕ) → s ≤ length walk → length walk ≤ s → Holds out to (take at out₀ ++ stateLines values picks walk s)
-      → Holds out to (take at out₀ ++ stateLines values picks walk (length walk))
-  lines-end out to s low high h = let e : s ≡ length walk = omega arith in rw e at h
+    pub lines-end : length walk ≤ s → Holds out₀ out to (take at out₀ ++ stateLines values picks walk (length walk))
+    lines-end l = let e : s ≡ length walk = omega (arith, h .there) in rw e at (h .put)
+
+-- the row or `give` of a line
+module _ {out : List ℕ} (at r : ℕ) where
+  pub row-gives
+      : {d : List ℕ} {n : ℕ} → r ≡ giveUp → Holds out d n (take at out ++ codes " give\n")
+      → Holds out d n (take at out ++ pickOn (eqb r giveUp) r)
+  row-gives e g = rw (eq-eqb r giveUp e) g
+
+  pub row-picks
+      : {c d : List ℕ} {m n : ℕ} → (r ≡ giveUp → ⊥) → Holds out c m (take at out ++ blankNumber r)
+      → Holds c d n (take m c ++ codes "\n") → Holds out d n (take at out ++ pickOn (eqb r giveUp) r)
+  row-picks ne g g′ = rw (ne-eqb r giveUp ne) (after (take at out) (blankNumber r) (codes "\n") g g′)
 
 -- a state's line, put in parts
-module _ (out b c : List ℕ) (at i j s v r : ℕ) (long : length c ≡ length b) (h : Holds b i (take at out ++ decimal s))
-    (k : Holds c j (take i b ++ blankNumber v)) where
-  begun : Holds c j (take at out ++ (decimal s ++ blankNumber v))
-  begun = after b c (take at out) (decimal s) (blankNumber v) i j long h k
-
-  pub state-gives
-      : (d : List ℕ) (n : ℕ) → length d ≡ length c → r ≡ giveUp → Holds d n (take j c ++ codes " give\n")
-      → Holds d n (take at out ++ stateLine s v r)
-  unfolding stateLine
-  state-gives d n l e g =
-      rw (eq-eqb r giveUp e) (after c d (take at out) (decimal s ++ blankNumber v) (codes " give\n") j n l begun g)
-
-  pub state-picks
-      : (d e : List ℕ) (m n : ℕ) → length d ≡ length c → length e ≡ length d → (r ≡ giveUp → ⊥) → Holds d m (take j c ++ blankNumber r)
-      → Holds e n (take m d ++ codes "\n") → Holds e n (take at out ++ stateLine s v r)
-  unfolding stateLine
-  state-picks d e m n l l′ ne g g′ =
-      let row = after c d (take at out) (decimal s ++ blankNumber v) (blankNumber r) j m l begun g in
-      rw (ne-eqb r giveUp ne)
-      (same e _ _ n (ap (λ t. take at out ++ t) (append-assoc (decimal s ++ blankNumber v) (blankNumber r) (codes "\n")))
-      (after d e (take at out) (decimal s ++ blankNumber v ++ blankNumber r) (codes "\n") m n l′ row g′))
+pub state-put
+    : {out b c d : List ℕ} (at : ℕ) {i j n : ℕ} (s v r : ℕ) → Holds out b i (take at out ++ decimal s)
+    → Holds b c j (take i b ++ blankNumber v) → Holds c d n (take j c ++ pickOn (eqb r giveUp) r)
+    → Holds out d n (take at out ++ stateLine s v r)
+unfolding stateLine
+state-put {out} at s v r h k g =
+    after (take at out) (decimal s ++ blankNumber v) (pickOn (eqb r giveUp) r) (after (take at out) (decimal s) (blankNumber v) h k) g
 
 -- a line where the state is marked
 pub line-put
-    : (mark : ℕ) (out out′ line : List ℕ) (at n : ℕ) → mark ≡ 1 → Holds out′ n (take at out ++ line)
-    → Holds out′ n (take at out ++ lineOn (eqb mark 1) line)
-line-put mark out out′ line at n e h = rw (eq-eqb mark 1 e) h
+    : (mark at : ℕ) {out out′ : List ℕ} (line : List ℕ) {n : ℕ} → mark ≡ 1 → Holds out out′ n (take at out ++ line)
+    → Holds out out′ n (take at out ++ lineOn (eqb mark 1) line)
+line-put mark at line e h = rw (eq-eqb mark 1 e) h
 
 pub line-left
-    : (mark : ℕ) (out line : List ℕ) (at : ℕ) → (mark ≡ 1 → ⊥) → at ≤ length out
-    → Holds out at (take at out ++ lineOn (eqb mark 1) line)
-line-left mark out line at ne h =
-    rw (ne-eqb mark 1 ne) (same out (take at out) (take at out ++ []) at (sym (append-nil (take at out))) (stands out at h))
+    : (mark at : ℕ) (out line : List ℕ) → (mark ≡ 1 → ⊥) → at ≤ length out → Holds out out at (take at out ++ lineOn (eqb mark 1) line)
+line-left mark at out line ne h = rw (ne-eqb mark 1 ne) (same (sym (append-nil (take at out))) (stands out at h))

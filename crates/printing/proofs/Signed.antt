@@ -12,6 +12,7 @@ use mir.Val.{SFits, toZ, ofZ}
 use mir.ValLaws.{toZ-ofZ}
 use borrow.Author.Tests.{ltb-true, lt-ltb}
 use Rattle.model.specs.Lines.{codes, decimal, blankNumber, blankSigned}
+use Rattle.printing.proofs.Widths.{bits63}
 
 -- a test of a number as the code holds it is the test of the number
 pub tested : (x : ℤ) (b : Bool) → SFits w64 x → ltZ (toZ w64 (ofZ w64 x)) (pos 0) ≡ b → ltZ x (pos 0) ≡ b
@@ -46,12 +47,12 @@ next-back : (k : ℕ) → pos 0 -ℤ next k ≡ pos k
 next-back zero = refl
 next-back (suc k) = ap pos (omega arith)
 
-next-fits : (k : ℕ) → k < 9223372036854775808 → SFits w64 (next k)
+next-fits : (k : ℕ) → k < bits63 → SFits w64 (next k)
 next-fits zero h = record { sfits = omega arith }
 next-fits (suc k) h = record { sfits = omega arith }
 
 -- the steps of the code, at −(k + 1)
-module _ (k : ℕ) (h : k < 9223372036854775808) where
+module _ (k : ℕ) (h : k < bits63) where
   plus : toZ w64 (ofZ w64 (negsuc k)) +ℤ pos 1 ≡ next k
   plus = ap (λ z. z +ℤ pos 1) (toZ-ofZ w64 (negsuc k) (record { sfits = h })) ∙ next-is k
 
@@ -75,7 +76,7 @@ over-fits (negsuc k) b f = rw (minus k (f .sfits)) (record { sfits = f .sfits })
 -- what the code casts to a number without sign
 pub record Turned (x : ℤ) : Type 0 where
   pub size : ℕ
-  pub small : size < 9223372036854775808
+  pub small : size < bits63
   pub is : toZ w64 (ofZ w64 (over x)) ≡ pos size
   pub far : size + 1 ≡ natAbs x
 
@@ -97,6 +98,6 @@ pub not-below : (x : ℤ) → ltZ x (pos 0) ≡ false → T (nonNeg x)
 not-below (pos k) b = tt
 not-below (negsuc k) b = absurd (true≢false b)
 
-pub distance-fits : (x : ℤ) → ltZ x (pos 0) ≡ false → SFits w64 x → natAbs x < 9223372036854775808
+pub distance-fits : (x : ℤ) → ltZ x (pos 0) ≡ false → SFits w64 x → natAbs x < bits63
 distance-fits (pos k) b f = f .sfits
 distance-fits (negsuc k) b f = absurd (true≢false b)

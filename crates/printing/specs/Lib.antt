@@ -1,3 +1,2 @@
 -- What the contracts of `printing` cite.
 pub mod Texts
-pub mod Plans

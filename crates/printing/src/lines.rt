@@ -1,8 +1,8 @@
 // The lines of `plan` and `audit`.
+use crate::decimals::put_next;
+use crate::decimals::put_number;
+use crate::decimals::put_signed;
 use crate::text::put;
-use crate::text::put_next;
-use crate::text::put_number;
-use crate::text::put_signed;
 use model::AuditAnswer;
 use model::GIVE_UP;
 use model::MAX_STATES;
@@ -12,21 +12,46 @@ ghost use Prim.Native.Nat.{_≤_, _<_};
 ghost use lib.Dec.{eqb};
 ghost use lib.ListN.{length, take, getD};
 ghost use Rattle.model.specs.Answers.{answerOf, auditedOf};
-ghost use Rattle.model.specs.Lines.{blankNumber, answerLine, auditLine, lineOn, stateLine, stateLines, runText};
-ghost use Rattle.printing.specs.Texts.{Holds, Brief, Marks, Within, lineMost};
+ghost use Rattle.model.specs.Limits.{giveUp};
+ghost use Rattle.model.specs.Lines.{codes, blankNumber, blankSigned, pickOn};
+ghost use Rattle.model.specs.Lines.{answerLine, auditLine, lineOn, stateLine, stateLines, runText};
+ghost use Rattle.model.specs.Buffers.{Holds, lineMost};
+ghost use Rattle.printing.specs.Texts.{Brief, Marks, WalkWithin};
 
 // Puts a word and two numbers at the front of `out`.
 fn put_counts(out: &mut [u8], word: &[u8], a: u64, b: u64) -> usize
-    ensures { λ r. ⌜ Holds (now (out .exit)) r (now (word .entry) ++ blankNumber a ++ blankNumber b) ⌝ }
+    ensures { λ r. ⌜ Holds (now (out .entry)) (now (out .exit)) r (now (word .entry) ++ blankNumber a ++ blankNumber b) ⌝ }
 {
     let i = put(out, 0, word);
     let j = put_next(out, i, a);
     put_next(out, j, b)
 }
 
+// Puts the line of a word and two numbers at the front of `out`.
+fn put_two(out: &mut [u8], word: &[u8], a: u64, b: u64) -> usize
+    ensures { λ r.
+        ⌜ Holds
+        (now (out .entry)) (now (out .exit)) r (now (word .entry) ++ blankNumber a ++ blankNumber b ++ codes "\n") ⌝ }
+{
+    let i = put_counts(out, word, a, b);
+    put(out, i, b"\n")
+}
+
+// Puts the line of a word and three numbers at the front of `out`.
+fn put_three(out: &mut [u8], word: &[u8], a: u64, b: u64, c: u64) -> usize
+    ensures { λ r.
+        ⌜ Holds
+        (now (out .entry)) (now (out .exit)) r
+        (now (word .entry) ++ blankNumber a ++ blankNumber b ++ blankNumber c ++ codes "\n") ⌝ }
+{
+    let i = put_counts(out, word, a, b);
+    let j = put_next(out, i, c);
+    put(out, j, b"\n")
+}
+
 // Puts the first line of `plan`: how the run ended, or the refusal.
 fn put_answer(out: &mut [u8], answer: SolveAnswer) -> usize
-    ensures { λ r. ⌜ Holds (now (out .exit)) r (answerLine (answerOf answer)) ⌝ }
+    ensures { λ r. ⌜ Holds (now (out .entry)) (now (out .exit)) r (answerLine (answerOf answer)) ⌝ }
     ensures brief { λ r. ⌜ length (answerLine (answerOf answer)) ≤ lineMost ⌝ }
 {
     match answer {
@@ -34,37 +59,39 @@ fn put_answer(out: &mut [u8], answer: SolveAnswer) -> usize
             rounds,
             evaluations,
             least,
-        } => {
-            let i = put_counts(out, b"solved", rounds, evaluations);
-            let j = put_next(out, i, least as u64);
-            put(out, j, b"\n")
-        }
+        } => put_three(out, b"solved", rounds, evaluations, least as u64),
         SolveAnswer::Spent {
             rounds,
             evaluations,
-        } => {
-            let i = put_counts(out, b"spent", rounds, evaluations);
-            put(out, i, b"\n")
-        }
+        } => put_two(out, b"spent", rounds, evaluations),
         SolveAnswer::Refused { question, place } => {
-            let i = put_counts(out, b"refused", question as u64, place as u64);
-            put(out, i, b"\n")
+            put_two(out, b"refused", question as u64, place as u64)
         }
     }
+}
+
+// Puts a blank and a row, or `give`, and ends the line.
+fn put_row(out: &mut [u8], at: usize, pick: u16) -> usize
+    requires { ⌜ at ≤ length (now out) ⌝ }
+    ensures { λ r.
+        ⌜ Holds
+        (now (out .entry)) (now (out .exit)) r (take at (now (out .entry)) ++ pickOn (eqb pick giveUp) pick) ⌝ }
+{
+    if pick == GIVE_UP {
+        return put(out, at, b" give\n");
+    }
+    let to = put_next(out, at, pick as u64);
+    put(out, to, b"\n")
 }
 
 // Puts a state's line: its number, its value, and its row or `give`.
 fn put_state(out: &mut [u8], at: usize, state: usize, value: u32, pick: u16) -> usize
     requires { ⌜ at ≤ length (now out) ⌝ }
-    ensures { λ r. ⌜ Holds (now (out .exit)) r (take at (now (out .entry)) ++ stateLine state value pick) ⌝ }
+    ensures { λ r. ⌜ Holds (now (out .entry)) (now (out .exit)) r (take at (now (out .entry)) ++ stateLine state value pick) ⌝ }
 {
     let a = put_number(out, at, state as u64);
     let b = put_next(out, a, value as u64);
-    if pick == GIVE_UP {
-        return put(out, b, b" give\n");
-    }
-    let c = put_next(out, b, pick as u64);
-    put(out, c, b"\n")
+    put_row(out, b, pick)
 }
 
 // A mark for each state, 1 where it stands in a walk list.
@@ -95,7 +122,7 @@ fn put_marked(
     requires { ⌜ (at ≤ length (now out)) × (state < length (now values)) × (state < length (now picks)) ⌝ }
     ensures { λ r.
         ⌜ Holds
-        (now (out .exit)) r
+        (now (out .entry)) (now (out .exit)) r
         (take at (now (out .entry))
         ++ lineOn
         (eqb mark 1) (stateLine state (getD (now (values .entry)) state 0) (getD (now (picks .entry)) state 0))) ⌝ }
@@ -108,10 +135,10 @@ fn put_marked(
 
 // Puts the lines of the listed states, by state number.
 fn put_states(out: &mut [u8], at: usize, values: &[u32], picks: &[u16], walk: &[u16]) -> usize
-    requires { ⌜ (at ≤ length (now out)) × Within (now walk) (now values) (now picks) ⌝ }
+    requires { ⌜ (at ≤ length (now out)) × WalkWithin (now walk) (now values) (now picks) ⌝ }
     ensures { λ r.
         ⌜ Holds
-        (now (out .exit)) r
+        (now (out .entry)) (now (out .exit)) r
         (take at (now (out .entry))
         ++ stateLines (now (values .entry)) (now (picks .entry)) (now (walk .entry)) (length (now (walk .entry)))) ⌝ }
 {
@@ -133,10 +160,10 @@ pub fn plan_text(
     walk: &[u16],
     out: &mut [u8],
 ) -> usize
-    requires { ⌜ Within (now walk) (now values) (now picks) ⌝ }
+    requires { ⌜ WalkWithin (now walk) (now values) (now picks) ⌝ }
     ensures { λ r.
         ⌜ Holds
-        (now (out .exit)) r
+        (now (out .entry)) (now (out .exit)) r
         (runText
         (answerOf answer) (now (values .entry)) (now (picks .entry)) (now (walk .entry)) (length (now (walk .entry)))) ⌝ }
     ensures brief { λ r.
@@ -149,25 +176,39 @@ pub fn plan_text(
     put_states(out, first, values, picks, walk)
 }
 
+// Puts the line of an accepted table.
+fn put_accepted(out: &mut [u8], least: u64) -> usize
+    ensures { λ r.
+        ⌜ Holds (now (out .entry)) (now (out .exit)) r (codes "accepted" ++ blankNumber least ++ codes "\n") ⌝ }
+{
+    let i = put(out, 0, b"accepted");
+    let j = put_next(out, i, least);
+    put(out, j, b"\n")
+}
+
+// Puts the line of an audit's refusal.
+fn put_refused(out: &mut [u8], question: u64, place: u64, excess: i64) -> usize
+    ensures { λ r.
+        ⌜ Holds
+        (now (out .entry)) (now (out .exit)) r
+        (codes "refused" ++ blankNumber question ++ blankNumber place ++ blankSigned excess ++ codes "\n") ⌝ }
+{
+    let i = put_counts(out, b"refused", question, place);
+    let j = put_signed(out, i, excess);
+    put(out, j, b"\n")
+}
+
 // Puts the line of an audit.
 pub fn audit_text(answer: AuditAnswer, out: &mut [u8]) -> usize
-    ensures { λ r. ⌜ Holds (now (out .exit)) r (auditLine (auditedOf answer)) ⌝ }
+    ensures { λ r. ⌜ Holds (now (out .entry)) (now (out .exit)) r (auditLine (auditedOf answer)) ⌝ }
     ensures brief { λ r. ⌜ length (auditLine (auditedOf answer)) ≤ lineMost ⌝ }
 {
     match answer {
-        AuditAnswer::Accepted { least } => {
-            let i = put(out, 0, b"accepted");
-            let j = put_next(out, i, least as u64);
-            put(out, j, b"\n")
-        }
+        AuditAnswer::Accepted { least } => put_accepted(out, least as u64),
         AuditAnswer::Refused {
             question,
             place,
             excess,
-        } => {
-            let i = put_counts(out, b"refused", question as u64, place as u64);
-            let j = put_signed(out, i, excess);
-            put(out, j, b"\n")
-        }
+        } => put_refused(out, question as u64, place as u64, excess),
     }
 }

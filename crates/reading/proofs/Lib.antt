@@ -1,7 +1,6 @@
 -- Laws that the proofs of this crate share.
-pub mod Chain
-pub mod Indexing
-pub mod RowParts
+pub mod Places
+pub mod Layouts
+pub mod RowEntries
+pub mod RowValues
 pub mod UndercutLoops
-pub mod Asking
-pub mod Looking

@@ -21,14 +21,14 @@ stateHolds p v = λ s. leb (endRow p s) (undercutRow p v s)
 
 module _ (p : Problem) (v : ℕ → ℕ) where
   -- what is left from row r, or from state s, gives the answer of the whole
-  pub rows-start
-      : (s r e : ℕ) → r ≡ p .firstRow s → e ≡ endRow p s → undercutRow p v s ≡ first (rowHolds p v (v s)) r (e - r)
+  pub row-search-is
+      : (s : ℕ) {r e : ℕ} → r ≡ p .firstRow s → e ≡ endRow p s → undercutRow p v s ≡ first (rowHolds p v (v s)) r (e - r)
   unfolding undercutRow
-  rows-start s r e a b = let z : e - r ≡ p .rowCount s = omega arith in rw (z, a)
+  row-search-is s {r = r} {e = e} a b = let z : e - r ≡ p .rowCount s = omega arith in rw (z, a)
 
-  pub states-start : (n : ℕ) → n ≡ p .states → undercutState p v ≡ first (stateHolds p v) 0 (n - 0)
+  pub state-search-is : {n : ℕ} → n ≡ p .states → undercutState p v ≡ first (stateHolds p v) 0 (n - 0)
   unfolding undercutState
-  states-start n a = rw a (search-starts (stateHolds p v) (p .states))
+  state-search-is a = rw a (search-starts (stateHolds p v) (p .states))
 
   -- a row whose value is not below the state's, and one whose value is
   pub row-passes
@@ -40,10 +40,10 @@ module _ (p : Problem) (v : ℕ → ℕ) where
 
   -- a state none of whose rows undercuts it, and one with a row that does
   pub state-passes
-      : (s n e : ℕ) → s < n → e ≡ endRow p s → undercutRow p v s ≡ e
+      : (s n : ℕ) {e : ℕ} → s < n → e ≡ endRow p s → undercutRow p v s ≡ e
       → first (stateHolds p v) s (n - s) ≡ first (stateHolds p v) (s + 1) (n - (s + 1))
-  state-passes s n e h a b = search-goes-on (stateHolds p v) n s h (le-leb (endRow p s) (undercutRow p v s) (omega arith))
+  state-passes s n h a b = search-goes-on (stateHolds p v) n s h (le-leb (endRow p s) (undercutRow p v s) (omega arith))
 
   pub state-undercut
-      : (s r n e : ℕ) → s < n → e ≡ endRow p s → undercutRow p v s ≡ r → r < e → first (stateHolds p v) s (n - s) ≡ s
-  state-undercut s r n e h a b l = search-stops (stateHolds p v) n s h (lt-leb (endRow p s) (undercutRow p v s) (omega arith))
+      : (s n : ℕ) {r e : ℕ} → s < n → e ≡ endRow p s → undercutRow p v s ≡ r → r < e → first (stateHolds p v) s (n - s) ≡ s
+  state-undercut s n h a b l = search-stops (stateHolds p v) n s h (lt-leb (endRow p s) (undercutRow p v s) (omega arith))

@@ -1,39 +1,44 @@
--- Where the sections' items begin and how many there are, once questions 1 to 3 have said yes; the settings.
+-- Where the sections' items begin and how many there are, once questions 1 to 3 have said yes, and the settings.
+-- These are the only places at which the file's numbers are looked for.
 use mathlib.Core.Path.{_≡_}
 use Prim.Native.Nat.{ℕ, _+_, _*_, _≤_}
 use mathlib.Core.List.{List}
-use lib.Dec.{leb}
 use lib.ListN.{length}
 use Rattle.model.specs.Bytes.{u16At}
-use Rattle.model.specs.Limits.{maxStates, maxRows, maxOutcomes}
-use Rattle.model.specs.Problem.{Problem}
-use Rattle.model.specs.Questions.{ask, settingQuestions}
-use Rattle.model.specs.Sections.{statesAt, rowsAt, outcomesAt, settingOf}
+use Rattle.model.specs.Limits.{settingCount, maxStates, maxRows, maxOutcomes}
+use Rattle.model.specs.Sections.{statesAt, rowsAt, outcomesAt, problemOf}
+use Rattle.reading.specs.declared.layout.Layout.{Layout}
+use Rattle.reading.specs.declared.settings.Settings.{Settings}
 
-pub record LaidOut (f : List ℕ) (at1 states at2 rows at3 outcomes : ℕ) : Type 0 where
-  pub states-at : at1 ≡ statesAt f + 2
-  pub states-count : states ≡ u16At f (statesAt f)
-  pub rows-at : at2 ≡ rowsAt f + 2
-  pub rows-count : rows ≡ u16At f (rowsAt f)
-  pub outcomes-at : at3 ≡ outcomesAt f + 2
-  pub outcomes-count : outcomes ≡ u16At f (outcomesAt f)
-  pub states-there : at1 + 6 * states ≤ length f
-  pub rows-there : at2 + 4 * rows ≤ length f
-  pub outcomes-there : at3 + 4 * outcomes ≡ length f
-  pub settings-there : at1 ≡ 16
-  pub states-low : 1 ≤ states
-  pub states-high : states ≤ maxStates
-  pub rows-high : rows ≤ maxRows
-  pub outcomes-high : outcomes ≤ maxOutcomes
-  pub rows-near : at3 ≤ 65536
+-- where the settings and the states begin: after the counts of their sections, 2 bytes each; a setting has 4 bytes
+abbrev pub firstSetting : ℕ
+firstSetting = 2
 
-pub record Set (f : List ℕ) (start tolerance penalty : ℕ) : Type 0 where
-  pub start-is : start ≡ settingOf f 0
-  pub tolerance-is : tolerance ≡ settingOf f 1
-  pub penalty-is : penalty ≡ settingOf f 2
+abbrev pub firstState : ℕ
+firstState = firstSetting + 4 * settingCount + 2
 
--- the first setting that question 4 refuses, or 3
-abbrev pub SettingAnswer : ℕ → ℕ → ℕ → ℕ → ℕ → Type 0
-SettingAnswer start states tolerance penalty r =
-    (p : Problem) → p .start ≡ start → p .states ≡ states → p .tolerance ≡ tolerance → p .penalty ≡ penalty
-    → settingQuestions p ≡ ask 4 r (leb 3 r)
+-- no file has its outcomes begin later
+abbrev pub lastOutcomes : ℕ
+lastOutcomes = firstState + 6 * maxStates + 2 + 4 * maxRows + 2
+
+pub record LaidOut (f : List ℕ) (l : Layout) : Type 0 where
+  pub states-are : l .states ≡ problemOf f .states
+  pub rows-are : l .rows ≡ problemOf f .rows
+  pub outcomes-are : l .outcomes ≡ u16At f (outcomesAt f)
+  pub states-at : l .at1 ≡ statesAt f + 2
+  pub rows-at : l .at2 ≡ rowsAt f + 2
+  pub outcomes-at : l .at3 ≡ outcomesAt f + 2
+  pub states-begin : l .at1 ≡ firstState
+  pub states-there : l .at1 + 6 * l .states ≤ length f
+  pub rows-there : l .at2 + 4 * l .rows ≤ length f
+  pub outcomes-there : l .at3 + 4 * l .outcomes ≡ length f
+  pub states-low : 1 ≤ l .states
+  pub states-high : l .states ≤ maxStates
+  pub rows-high : l .rows ≤ maxRows
+  pub outcomes-high : l .outcomes ≤ maxOutcomes
+  pub outcomes-near : l .at3 ≤ lastOutcomes
+
+pub record SettingsOf (f : List ℕ) (s : Settings) : Type 0 where
+  pub start-is : s .start ≡ problemOf f .start
+  pub tolerance-is : s .tolerance ≡ problemOf f .tolerance
+  pub penalty-is : s .penalty ≡ problemOf f .penalty

@@ -1,6 +1,8 @@
--- What the functions of this crate promise, in the model's terms.
+-- What the functions of this crate promise, in the model's terms, and the laws of it that other crates cite.
+pub mod Bounds
 pub mod Tests
 pub mod Laid
-pub mod Indexed
 pub mod Ready
-pub mod Asked
+pub mod Begins
+pub mod RowParts
+pub mod Fields

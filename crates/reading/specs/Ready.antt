@@ -1,4 +1,4 @@
--- What stands once questions 1 to 10 have said yes: the index holds what it should, and every byte that a row needs is there.
+-- What stands once questions 1 to 10 have said yes: the index holds what it should, and all bytes that a row needs are there.
 use mathlib.Core.Path.{_≡_}
 use Prim.Native.Nat.{ℕ, suc, _+_, _*_, _/_, _≤_, _<_}
 use mathlib.Core.List.{List}
@@ -6,12 +6,14 @@ use lib.ListN.{length, getD, drop}
 use Rattle.model.specs.Bytes.{u16At}
 use Rattle.model.specs.Limits.{maxStates, maxRows}
 use Rattle.model.specs.Problem.{endRow}
-use Rattle.model.specs.Sections.{problemOf, statesAt, outcomeAt, outcomeCountOf}
-use Rattle.model.specs.Questions.{undercutState, undercutRow}
+use Rattle.model.specs.Sections.{problemOf, outcomeAt, outcomeCountOf}
+use Rattle.model.specs.Questions.{passes, layoutQuestions, undercutState, undercutRow}
 use Rattle.model.specs.Value.{rowTicks}
 use Rattle.reading.specs.Tests.{rowsBase, indexSize}
+use Rattle.reading.specs.Bounds.{maxByte}
 
 pub record Ready (f index : List ℕ) : Type 0 where
+  pub whole : layoutQuestions f ≡ passes
   pub size : length index ≡ indexSize
   pub first-row : (s : ℕ) → s ≤ problemOf f .states → getD index s 0 ≡ problemOf f .firstRow s
   pub outcomes-at : (r : ℕ) → r ≤ problemOf f .rows → getD index (rowsBase + 2 * r) 0 ≡ outcomeAt f r
@@ -20,16 +22,15 @@ pub record Ready (f index : List ℕ) : Type 0 where
   pub rows-high : problemOf f .rows ≤ maxRows
   pub rows-follow : (s : ℕ) → problemOf f .firstRow (suc s) ≡ endRow (problemOf f) s
   pub rows-within : (s : ℕ) → s < problemOf f .states → endRow (problemOf f) s ≤ problemOf f .rows
-  pub state-there : (s : ℕ) → s < problemOf f .states → statesAt f + 2 + 6 * s + 6 ≤ length f
   pub outcomes-follow : (r : ℕ) → outcomeAt f (suc r) ≡ outcomeAt f r + 4 * outcomeCountOf f r
-  pub outcomes-few : (r : ℕ) → outcomeCountOf f r ≤ 255
+  pub outcomes-few : (r : ℕ) → outcomeCountOf f r ≤ maxByte
   pub outcomes-there : (r : ℕ) → r < problemOf f .rows → outcomeAt f (suc r) ≤ length f
   pub successor-there : (r i : ℕ) → r < problemOf f .rows → i < outcomeCountOf f r
       → u16At (drop (outcomeAt f r) f) (4 * i) < problemOf f .states
 
--- what the weighted sum asks: at most 255 outcomes, each of which leads to an entry of the table
+-- what the weighted sum asks: no more outcomes, 4 bytes each, than a row can have, and each leads to an entry of the table
 pub record SumThere (b : List ℕ) (entries : ℕ) : Type 0 where
-  pub few : length b ≤ 1020
+  pub few : length b ≤ 4 * maxByte
   pub there : (i : ℕ) → i < length b / 4 → u16At b (4 * i) < entries
 
 -- what the value of row r asks
@@ -38,8 +39,9 @@ pub record RowReady (f index : List ℕ) (entries r : ℕ) : Type 0 where
   pub entries-there : problemOf f .states ≤ entries
   pub row-there : r < problemOf f .rows
 
--- the first state with an undercut row, and that row
+-- the first state with an undercut row, and that row; the number of states and row 0 where there is none
 pub record Undercuts (f : List ℕ) (v : ℕ → ℕ) (s r : ℕ) : Type 0 where
   pub state-is : s ≡ undercutState (problemOf f) v
   pub row-is : s < problemOf f .states → r ≡ undercutRow (problemOf f) v s
+  pub no-row : problemOf f .states ≤ s → r ≡ 0
   pub row-there : r ≤ maxRows

@@ -14,10 +14,10 @@ ghost use lib.ListN.{length};
 ghost use Rattle.model.specs.Limits.{maxRows, maxStates, ticksPerSecond};
 ghost use Rattle.model.specs.Questions.{costObeys};
 ghost use Rattle.model.specs.Rounds.{fillTo};
-ghost use Rattle.model.specs.Search.{first, sumTo};
+ghost use Rattle.model.specs.Search.{sumTo};
 ghost use Rattle.model.specs.Sections.{secondsOn};
+ghost use Rattle.reading.specs.Laid.{lastOutcomes};
 ghost use Rattle.reading.specs.Tests.{rowCountAt, rowTest, RowsIndexed};
-ghost use Rattle.reading.specs.Tests.{partOf, outcomesIn, outcomesTest, PartThere};
 
 // Entry s, for s up to the number of states: the first row of state s. Entry ROWS + 2 r, for r up to the number of rows: where
 // the outcomes of row r begin. Entry ROWS + 2 r + 1: the cost of row r in ticks.
@@ -57,7 +57,8 @@ fn ticks(kind: u32, number: u32) -> u32
 
 // Fills in where the outcomes of each row begin, and its cost in ticks. Answers the sum of the outcome numbers: question 9.
 pub fn index_rows(file: &[u8], at: usize, n: usize, at3: usize, index: &mut [u32; INDEX]) -> u32
-    requires { ⌜ (at + 4 * n ≤ length (now file)) × (n ≤ maxRows) × (at3 ≤ 65536) × ((r : ℕ) → r < n → rowTest (now file) at r ≡ true) ⌝ }
+    requires { ⌜ (at + 4 * n ≤ length (now file)) × (n ≤ maxRows) × (at3 ≤ lastOutcomes)
+        × ((r : ℕ) → r < n → rowTest (now file) at r ≡ true) ⌝ }
     ensures { λ r. ⌜ RowsIndexed (now (file .entry)) at n at3 (now (index .entry)) (now (index .exit)) r ⌝ }
 {
     let mut total: u32 = 0;
@@ -70,22 +71,4 @@ pub fn index_rows(file: &[u8], at: usize, n: usize, at3: usize, index: &mut [u32
     }
     index[ROWS + 2 * n] = (at3 as u32) + 4 * total;
     total
-}
-
-// Question 10: the first row whose outcomes do not obey section 3, or n.
-pub fn bad_outcomes(file: &[u8], n: usize, states: usize, index: &[u32; INDEX]) -> usize
-    requires { ⌜ (n ≤ maxRows) × ((r : ℕ) → r < n → PartThere (now file) (now index) r) ⌝ }
-    ensures { λ r.
-        ⌜ r ≡ first (λ k. outcomesTest states (outcomesIn (partOf (now (file .entry)) (now (index .entry)) k))) 0 n ⌝ }
-{
-    let mut r = 0;
-    while r < n {
-        let from = index[ROWS + 2 * r] as usize;
-        let to = index[ROWS + 2 * r + 2] as usize;
-        if !crate::items::outcomes_obey(&file[from..to], states) {
-            return r;
-        }
-        r += 1;
-    }
-    n
 }

@@ -1,8 +1,8 @@
-// The problem file of document 01: numbers, sections, questions 1 to 11, the index, the row value, the lookup.
+// The problem file of document 01: its numbers, where its sections lie, settings, states, the index, the row value.
 // The caller's bytes are read where they lie.
 pub mod index;
-pub mod items;
 pub mod layout;
 pub mod numbers;
-pub mod questions;
+pub mod settings;
+pub mod states;
 pub mod value;

@@ -2,31 +2,37 @@
 use crate::index::INDEX;
 use crate::index::ROWS;
 use crate::numbers::u16_at;
-use crate::numbers::u32_at;
 use model::WEIGHT_TOTAL;
 ghost use mathlib.Core.Path.{_≡_};
 ghost use Prim.Native.Nat.{_+_, _*_, _/_, _≤_, _<_};
 ghost use lib.Dec.{ltb};
 ghost use lib.ListN.{length};
-ghost use Rattle.model.specs.Bytes.{u32At};
-ghost use Rattle.model.specs.Limits.{weightTotal};
-ghost use Rattle.model.specs.Rounds.{fillTo};
+ghost use Rattle.model.specs.Limits.{valueBound, weightTotal};
 ghost use Rattle.model.specs.Sections.{problemOf};
-ghost use Rattle.model.specs.Value.{rowValue, weightedSum, entry};
+ghost use Rattle.model.specs.Value.{rowValue, weightedSum, byState};
 ghost use Rattle.reading.specs.Ready.{Ready, RowReady, SumThere, Undercuts};
 ghost use Rattle.reading.specs.Tests.{outcomesIn};
+ghost use Rattle.reading.specs.Bounds.{shortBound};
+
+// w × V(successor), not rounded.
+fn product(weight: u32, value: u32) -> u64
+    requires { ⌜ weight * value < shortBound * valueBound ⌝ }
+    ensures { λ r. ⌜ r ≡ weight * value ⌝ }
+{
+    (weight as u64) * (value as u64)
+}
 
 // The sum of w × V(successor) over the outcomes in `part`, 4 bytes each.
 fn weighted_sum(part: &[u8], values: &[u32]) -> u64
     requires { ⌜ SumThere (now part) (length (now values)) ⌝ }
-    ensures { λ r. ⌜ r ≡ weightedSum (outcomesIn (now (part .entry))) (entry (now (values .entry))) ⌝ }
+    ensures { λ r. ⌜ r ≡ weightedSum (outcomesIn (now (part .entry))) (byState (now (values .entry))) ⌝ }
 {
     let count = part.len() / 4;
     let mut sum: u64 = 0;
     let mut i = 0;
     while i < count {
         let successor = u16_at(part, 4 * i) as usize;
-        sum += (u16_at(part, 4 * i + 2) as u64) * (values[successor] as u64);
+        sum += product(u16_at(part, 4 * i + 2), values[successor]);
         i += 1;
     }
     sum
@@ -42,7 +48,7 @@ fn average(sum: u64) -> u64
 // The value of row r under `values`: its cost in ticks and the weighted sum, divided by 1,000 once.
 pub fn row_value(file: &[u8], index: &[u32; INDEX], values: &[u32], r: usize) -> u64
     requires { ⌜ RowReady (now file) (now index) (length (now values)) r ⌝ }
-    ensures { λ q. ⌜ q ≡ rowValue (problemOf (now (file .entry))) (entry (now (values .entry))) r ⌝ }
+    ensures { λ q. ⌜ q ≡ rowValue (problemOf (now (file .entry))) (byState (now (values .entry))) r ⌝ }
 {
     let from = index[ROWS + 2 * r] as usize;
     let cost = index[ROWS + 2 * r + 1] as u64;
@@ -50,10 +56,10 @@ pub fn row_value(file: &[u8], index: &[u32; INDEX], values: &[u32], r: usize) ->
     cost + average(weighted_sum(&file[from..to], values))
 }
 
-// Whether the value of row r lies below `value`. It is at least the row's cost, so no sum is needed where `value` is at most that.
+// Whether the value of row r lies below `value`. It is at least the row's cost, so a `value` up to that needs no sum.
 fn undercuts(file: &[u8], index: &[u32; INDEX], values: &[u32], value: u64, r: usize) -> bool
     requires { ⌜ RowReady (now file) (now index) (length (now values)) r ⌝ }
-    ensures { λ q. ⌜ q ≡ ltb (rowValue (problemOf (now (file .entry))) (entry (now (values .entry))) r) value ⌝ }
+    ensures { λ q. ⌜ q ≡ ltb (rowValue (problemOf (now (file .entry))) (byState (now (values .entry))) r) value ⌝ }
 {
     let cost = index[ROWS + 2 * r + 1] as u64;
     if value <= cost {
@@ -68,10 +74,10 @@ pub struct Undercut {
     pub row: usize,
 }
 
-// "It stops at the first row, states in order, whose value lies below its state's"; state n where there is none.
+// "It stops at the first row, states in order, whose value lies below its state's"; state n and row 0 where there is none.
 pub fn first_undercut(file: &[u8], index: &[u32; INDEX], values: &[u32], n: usize) -> Undercut
     requires { ⌜ (Ready (now file) (now index)) × (n ≡ problemOf (now file) .states) × (n ≤ length (now values)) ⌝ }
-    ensures { λ u. ⌜ Undercuts (now (file .entry)) (entry (now (values .entry))) (u .state) (u .row) ⌝ }
+    ensures { λ u. ⌜ Undercuts (now (file .entry)) (byState (now (values .entry))) (u .state) (u .row) ⌝ }
 {
     let mut s = 0;
     let mut found = 0;
@@ -91,17 +97,5 @@ pub fn first_undercut(file: &[u8], index: &[u32; INDEX], values: &[u32], n: usiz
     Undercut {
         state: s,
         row: found,
-    }
-}
-
-// Fills in the estimates of the n states at `at`.
-pub fn estimates(file: &[u8], at: usize, n: usize, values: &mut [u32])
-    requires { ⌜ (at + 6 * n ≤ length (now file)) × (n ≤ length (now values)) ⌝ }
-    ensures { λ _. ⌜ now (values .exit) ≡ fillTo (λ s. u32At (now (file .entry)) (at + 6 * s)) (now (values .entry)) n ⌝ }
-{
-    let mut s = 0;
-    while s < n {
-        values[s] = u32_at(file, at + 6 * s);
-        s += 1;
     }
 }

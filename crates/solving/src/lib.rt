@@ -1,7 +1,5 @@
-// "Rounds of the solver" of document 01: the backup of a state, the round, the run, and questions 12 to 14.
+// "Rounds of the solver" of document 01: the round, the run, and questions 12 to 14.
 // The caller's file and tables are used where they lie; the index of the file is made once a call.
-mod backup;
+mod lent;
 mod run;
-mod scan;
 pub mod solve;
-mod tables;

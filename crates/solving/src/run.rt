@@ -1,32 +1,34 @@
 // The round, and the run: rounds until one moves nothing, or the budget is reached.
-use crate::backup::Tally;
-use crate::backup::backups;
-use crate::scan::LOG;
+// A walk's marks live as long as its round; where the round moves nothing they give C.
+use backing::LOG;
+use backing::backup::Tally;
+use backing::backup::backups;
 use reading::index::INDEX;
-use walking::walk::MARKS;
+use walking::least::least_cost;
 use walking::walk::walk;
-ghost use mathlib.Core.Path.{_≡_};
 ghost use mathlib.Core.Bool.{true};
 ghost use mathlib.Core.List.{[]};
 ghost use Prim.Native.Nat.{_≤_, _<_};
 ghost use Rattle.model.specs.Limits.{maxBudget};
-ghost use Rattle.model.specs.Problem.{giveUpCost};
 ghost use Rattle.model.specs.Sections.{problemOf};
+ghost use Rattle.model.specs.Solution.{tables};
 ghost use Rattle.model.specs.Rounds;
-ghost use Rattle.solving.specs.Asked.{countBound, machine, Runnable, Rounded, Ran};
+ghost use Rattle.backing.specs.Backable.{countBound, machine};
+ghost use Rattle.solving.specs.Runs.{Runnable, Given, Rounded, Ran};
 
-// A round done: as a tally, and the length of its walk list.
+// A round done: as a tally, the length of its walk list, and C where nothing moved, else 0.
 pub struct RoundDone {
     pub count: u64,
     pub moved: bool,
     pub over: bool,
     pub row: u32,
     pub listed: usize,
+    pub least: u32,
 }
 
-// One round: walk with the picks as they are, then back up the listed states. `count` evaluations were made before. The marks are
-// left as the walk makes them.
-pub fn round(
+// One round: walk with the picks as they are, then back up the listed states. `count` evaluations were made before. Where nothing
+// moved the picks are still those of the walk, so that its marks are the reached states.
+fn round(
     file: &[u8],
     index: &[u32; INDEX],
     values: &mut [u32],
@@ -34,23 +36,23 @@ pub fn round(
     remembered: &mut [u32],
     list: &mut [u16],
     log: &mut [u32; LOG],
-    marks: &mut [u8; MARKS],
+    states: usize,
     tolerance: u32,
     give: u32,
     count: u64,
 ) -> RoundDone
-    requires { ⌜ Runnable (now file) (now index) (now values) (now picks) (now remembered) (now list)
-        × (give ≡ giveUpCost (problemOf (now file)))
+    requires { ⌜ Runnable (now file) (now index) (tables (now values) (now picks) (now remembered) (now list))
+        × Given (problemOf (now file)) states tolerance give
         × (Rounds.round (problemOf (now file)) tolerance (machine (now values) (now picks) (now remembered) [] count true) .evaluations
         < countBound) ⌝ }
     ensures { λ r.
         ⌜ Rounded
         (problemOf (now (file .entry))) tolerance
-        (now (values .entry)) (now (picks .entry)) (now (remembered .entry)) (now (list .entry)) count
-        (now (values .exit)) (now (picks .exit)) (now (remembered .exit)) (now (list .exit)) (now (marks .exit))
-        (r .count) (r .moved) (r .listed) (r .over) ⌝ }
+        (tables (now (values .entry)) (now (picks .entry)) (now (remembered .entry)) (now (list .entry))) count
+        (tables (now (values .exit)) (now (picks .exit)) (now (remembered .exit)) (now (list .exit))) r ⌝ }
 {
-    let listed = walk(file, index, picks, marks, list);
+    let walked = walk(file, index, picks, list);
+    let listed = walked.listed;
     let t = Tally {
         count,
         moved: false,
@@ -70,27 +72,33 @@ pub fn round(
         give,
         t,
     );
+    let mut least = 0;
+    if !b.moved {
+        least = least_cost(file, index, picks, &walked.marks, states);
+    }
     RoundDone {
         count: b.count,
         moved: b.moved,
         over: b.over,
         row: b.row,
         listed,
+        least,
     }
 }
 
-// How a run ended: rounds done, evaluations, the length of the last walk's list, and whether it was solved. Where the value of a
-// row did not fit `over` is set, and that row is `row`.
+// How a run ended: rounds done, evaluations, the length of the last walk's list, and whether it was solved; C, or 0 where it was
+// not. Where the value of a row did not fit `over` is set, and that row is `row`.
 pub struct Ended {
     pub rounds: u64,
     pub evaluations: u64,
     pub listed: usize,
+    pub least: u32,
     pub solved: bool,
     pub over: bool,
     pub row: u32,
 }
 
-// Runs at most `budget` rounds. Where the run is solved the marks are left as a walk with the last picks makes them.
+// Runs at most `budget` rounds.
 pub fn run(
     file: &[u8],
     index: &[u32; INDEX],
@@ -98,19 +106,18 @@ pub fn run(
     picks: &mut [u16],
     remembered: &mut [u32],
     list: &mut [u16],
-    marks: &mut [u8; MARKS],
+    states: usize,
     tolerance: u32,
     give: u32,
     budget: u64,
 ) -> Ended
-    requires { ⌜ Runnable (now file) (now index) (now values) (now picks) (now remembered) (now list)
-        × (give ≡ giveUpCost (problemOf (now file))) × (budget ≤ maxBudget) ⌝ }
+    requires { ⌜ Runnable (now file) (now index) (tables (now values) (now picks) (now remembered) (now list))
+        × Given (problemOf (now file)) states tolerance give × (budget ≤ maxBudget) ⌝ }
     ensures { λ r.
         ⌜ Ran
         (problemOf (now (file .entry))) tolerance budget
-        (now (values .entry)) (now (picks .entry)) (now (remembered .entry)) (now (list .entry))
-        (now (values .exit)) (now (picks .exit)) (now (remembered .exit)) (now (list .exit)) (now (marks .exit))
-        (r .rounds) (r .evaluations) (r .listed) (r .solved) (r .over) ⌝ }
+        (tables (now (values .entry)) (now (picks .entry)) (now (remembered .entry)) (now (list .entry)))
+        (tables (now (values .exit)) (now (picks .exit)) (now (remembered .exit)) (now (list .exit))) r ⌝ }
 {
     let mut log = [0u32; LOG];
     let mut rounds: u64 = 0;
@@ -125,7 +132,7 @@ pub fn run(
             remembered,
             list,
             &mut log,
-            marks,
+            states,
             tolerance,
             give,
             count,
@@ -136,6 +143,7 @@ pub fn run(
                 rounds,
                 evaluations: count,
                 listed,
+                least: 0,
                 solved: false,
                 over: true,
                 row: r.row,
@@ -148,6 +156,7 @@ pub fn run(
                 rounds,
                 evaluations: count,
                 listed,
+                least: r.least,
                 solved: true,
                 over: false,
                 row: 0,
@@ -158,6 +167,7 @@ pub fn run(
         rounds,
         evaluations: count,
         listed,
+        least: 0,
         solved: false,
         over: false,
         row: 0,

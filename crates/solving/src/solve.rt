@@ -1,63 +1,50 @@
 // Solving a file: questions 1 to 13, then the run, and what it leaves in the lent tables.
+// A no to one of them leaves every table as it was lent.
+use crate::lent::no_picks;
+use crate::lent::pad;
+use crate::lent::remember;
+use crate::lent::solve_questions;
 use crate::run::Ended;
 use crate::run::run;
-use crate::tables::no_picks;
-use crate::tables::pad;
-use crate::tables::remember;
-use crate::tables::solve_questions;
+use checking::questions::questions;
 use model::FileAnswer;
 use model::SolveAnswer;
-use model::TICKS_PER_SECOND;
 use reading::index::INDEX;
 use reading::layout::layout_of;
-use reading::layout::settings_of;
-use reading::questions::questions;
-use reading::value::estimates;
-use walking::least::least_cost;
-use walking::walk::MARKS;
+use reading::settings::give_up_cost;
+use reading::settings::settings_of;
+use reading::states::estimates;
 ghost use mathlib.Core.Path.{_≡_};
-ghost use mathlib.Core.Bool.{true, false};
-ghost use Rattle.model.specs.Answers.{answerOf};
-ghost use Rattle.model.specs.Sections.{problemOf};
-ghost use Rattle.model.specs.Solution.{solution};
-ghost use Rattle.model.specs.Value.{entry};
-ghost use Rattle.walking.specs.Trails.{Walkable};
-ghost use Rattle.solving.specs.Promises.{EndsSolved, PassesAudit};
-ghost use Rattle.solving.specs.Solving.{PicksFit, answered, tables, Solvable, Leaves};
+ghost use mathlib.Core.Bool.{false};
+ghost use Rattle.model.specs.Answers.{solveCarries};
+ghost use Rattle.model.specs.Promises.{Leaves, EndsSolved, PassesAudit};
+ghost use Rattle.model.specs.Solution.{tables, solution};
+ghost use Rattle.solving.specs.Solvable.{runCarries, Solvable};
 
-// What a run that ended carries. Where it is solved, `marks` are those of a walk with the picks.
-fn answer(
-    file: &[u8],
-    index: &[u32; INDEX],
-    picks: &[u16],
-    marks: &[u8; MARKS],
-    states: usize,
-    end: Ended,
-) -> SolveAnswer
-    requires { ⌜ Walkable (now file) (now index) × (end .solved ≡ true → PicksFit (problemOf (now file)) (now picks) (now marks))
-        × (states ≡ problemOf (now file) .states) × (end .over ≡ false) ⌝ }
-    ensures { λ r.
-        ⌜ answerOf r ≡ answered (end .solved) (problemOf (now (file .entry))) (end .rounds) (end .evaluations) (now (picks .entry)) ⌝ }
+// The answer of a run that ended.
+fn answer(end: Ended) -> SolveAnswer
+    requires { ⌜ end .over ≡ false ⌝ }
+    ensures { λ r. ⌜ solveCarries r ≡ runCarries (end .solved) (end .rounds) (end .evaluations) (end .least) ⌝ }
 {
-    let rounds = end.rounds;
-    let evaluations = end.evaluations;
     if end.over {
         return SolveAnswer::Refused {
             question: 14,
             place: end.row,
         };
     }
-    if !end.solved {
-        return SolveAnswer::Spent {
+    let rounds = end.rounds;
+    let evaluations = end.evaluations;
+    if end.solved {
+        SolveAnswer::Solved {
             rounds,
             evaluations,
-        };
-    }
-    let least = least_cost(file, index, picks, marks, states);
-    SolveAnswer::Solved {
-        rounds,
-        evaluations,
-        least,
+            least: end.least,
+        }
+    } else {
+        SolveAnswer::Spent {
+            rounds,
+            evaluations,
+        }
     }
 }
 
@@ -74,7 +61,7 @@ fn solve_ready(
     requires { ⌜ Solvable (now file) (now index) budget (tables (now values) (now picks) (now remembered) (now list)) ⌝ }
     ensures { λ r.
         ⌜ Leaves
-        (answerOf r) (tables (now (values .exit)) (now (picks .exit)) (now (remembered .exit)) (now (list .exit)))
+        (solveCarries r) (tables (now (values .exit)) (now (picks .exit)) (now (remembered .exit)) (now (list .exit)))
         (solution
         (now (file .entry)) budget
         (tables (now (values .entry)) (now (picks .entry)) (now (remembered .entry)) (now (list .entry)))) ⌝ }
@@ -82,10 +69,10 @@ fn solve_ready(
     let l = layout_of(file);
     let set = settings_of(file);
     let states = l.states;
-    estimates(file, l.at1, states, values);
+    estimates(file, states, values);
     no_picks(picks, states);
     remember(file, index, values, remembered, l.rows);
-    let mut marks = [0u8; MARKS];
+    let give = give_up_cost(file);
     let end = run(
         file,
         index,
@@ -93,13 +80,13 @@ fn solve_ready(
         picks,
         remembered,
         list,
-        &mut marks,
+        states,
         set.tolerance,
-        TICKS_PER_SECOND * set.penalty,
+        give,
         budget,
     );
     pad(list, end.listed, states);
-    answer(file, index, picks, &marks, states, end)
+    answer(end)
 }
 
 // Questions 1 to 14 about a file, a budget and four lent tables, and the run where they let it be.
@@ -113,7 +100,7 @@ fn solve_file(
 ) -> SolveAnswer
     ensures { λ r.
         ⌜ Leaves
-        (answerOf r) (tables (now (values .exit)) (now (picks .exit)) (now (remembered .exit)) (now (walk .exit)))
+        (solveCarries r) (tables (now (values .exit)) (now (picks .exit)) (now (remembered .exit)) (now (walk .exit)))
         (solution
         (now (file .entry)) budget
         (tables (now (values .entry)) (now (picks .entry)) (now (remembered .entry)) (now (walk .entry)))) ⌝ }
@@ -151,18 +138,18 @@ pub fn solve(
 ) -> SolveAnswer
     ensures { λ r.
         ⌜ Leaves
-        (answerOf r) (tables (now (values .exit)) (now (picks .exit)) (now (remembered .exit)) (now (walk .exit)))
+        (solveCarries r) (tables (now (values .exit)) (now (picks .exit)) (now (remembered .exit)) (now (walk .exit)))
         (solution
         (now (file .entry)) budget
         (tables (now (values .entry)) (now (picks .entry)) (now (remembered .entry)) (now (walk .entry)))) ⌝ }
     ensures ending { λ r.
         ⌜ EndsSolved
         (now (file .entry)) budget
-        (tables (now (values .entry)) (now (picks .entry)) (now (remembered .entry)) (now (walk .entry))) (answerOf r) ⌝ }
+        (tables (now (values .entry)) (now (picks .entry)) (now (remembered .entry)) (now (walk .entry))) (solveCarries r) ⌝ }
     ensures acceptance { λ r.
         ⌜ PassesAudit
         (now (file .entry))
-        (tables (now (values .exit)) (now (picks .exit)) (now (remembered .exit)) (now (walk .exit))) (answerOf r) ⌝ }
+        (tables (now (values .exit)) (now (picks .exit)) (now (remembered .exit)) (now (walk .exit))) (solveCarries r) ⌝ }
 {
     solve_file(file, budget, values, picks, remembered, walk)
 }

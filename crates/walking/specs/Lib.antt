@@ -1,7 +1,5 @@
--- What the functions of this crate promise, in the model's terms, and why they can.
+-- What the functions of this crate ask and promise, in the model's terms, and laws for their callers.
+pub mod Walkable
 pub mod Trails
-pub mod Parts
-pub mod Visits
-pub mod Starts
 pub mod Costs
 pub mod Walked

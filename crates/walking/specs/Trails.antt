@@ -1,28 +1,21 @@
--- What the walk's functions ask and promise: marks and list are the model's trail, at every depth of at least the unmarked states.
--- One record for what is asked, one for what is promised, over the file's graph.
+-- What the walk's visits ask and promise: marks and list are the model's trail, whatever the depth, if it is at least the
+-- number of unmarked states. One record for what is asked, one for what is promised, over the file's graph.
 use mathlib.Core.Path.{_≡_}
 use Prim.Native.Nat.{ℕ, zero, suc, _+_, _-_, _*_, _/_, _≤_, _<_}
 use mathlib.Core.List.{List, [], _∷_}
 use lib.ListN.{getD, length, take, drop}
 use Rattle.model.specs.Bytes.{u16At}
-use Rattle.model.specs.Sections.{problemOf, statesAt}
-use Rattle.model.specs.Value.{entry}
-use Rattle.model.specs.Walk.{In, Trail, next, walk, visitState, visitOutcomes}
-use Rattle.guarantee.specs.Formed.{WellFormed}
+use Rattle.model.specs.Sections.{problemOf}
+use Rattle.model.specs.Value.{byState}
+use Rattle.model.specs.Walk.{In, Trail, next, visitState, visitOutcomes}
 use Rattle.guarantee.specs.Graphs.{Step, unmarked, each}
-use Rattle.reading.specs.Ready.{Ready}
-use Rattle.reading.specs.Tests.{rowsBase}
-
--- a file that questions 1 to 11 let through, and its index
-pub record Walkable (f index : List ℕ) : Type 0 where
-  pub ready : Ready f index
-  pub formed : WellFormed (problemOf f)
-  pub states-at : statesAt f ≡ 14
+use Rattle.reading.specs.RowParts.{partFrom, partTo}
+use Rattle.walking.specs.Walkable.{Walkable}
 
 -- the outcomes of a pick: its own where it is between the state's first row and the next state's, else none
 pub record Picked (index : List ℕ) (s pick from to : ℕ) : Type 0 where
   pub own : getD index s 0 ≤ pick → pick < getD index (s + 1) 0
-      → (from ≡ getD index (rowsBase + 2 * pick) 0) × (to ≡ getD index (rowsBase + 2 * pick + 2) 0)
+      → (from ≡ partFrom index pick) × (to ≡ partTo index pick)
   pub stray : (getD index s 0 ≤ pick → pick < getD index (s + 1) 0 → ⊥) → (from ≡ 0) × (to ≡ 0)
 
 -- the successors of k outcomes whose bytes begin at i
@@ -45,20 +38,20 @@ abbrev pub trail : List ℕ → List ℕ → ℕ → Trail
 trail marks list n = record { marks = marks; list = take n list }
 
 -- the number of states that are not marked
-abbrev pub left : List ℕ → List ℕ → ℕ
-left f marks = unmarked each marks (problemOf f .states)
+abbrev pub unmarkedStates : List ℕ → List ℕ → ℕ
+unmarkedStates f marks = unmarked each marks (problemOf f .states)
 
 -- what a stretch of the walk over a file's states does
 abbrev pub Stretch : List ℕ → List ℕ → Trail → Trail → Type 0
-Stretch f picks = Step (problemOf f .goal) (next (problemOf f) (entry picks)) (problemOf f .states) (λ s. s < problemOf f .states)
+Stretch f picks = Step (problemOf f .goal) (next (problemOf f) (byState picks)) (problemOf f .states) (λ s. s < problemOf f .states)
 
 -- the model's visit of a state, and of the outcomes of a part, with a depth
 abbrev pub visitedState : List ℕ → List ℕ → ℕ → ℕ → Trail → Trail
-visitedState f picks s d w = visitState (problemOf f .goal) (next (problemOf f) (entry picks)) d s w
+visitedState f picks s d w = visitState (problemOf f .goal) (next (problemOf f) (byState picks)) d s w
 
 abbrev pub visitedOutcomes : List ℕ → List ℕ → ℕ → ℕ → ℕ → Trail → Trail
 visitedOutcomes f picks from to d w =
-    visitOutcomes (visitState (problemOf f .goal) (next (problemOf f) (entry picks)) d) (leads f from to) w
+    visitOutcomes (visitState (problemOf f .goal) (next (problemOf f) (byState picks)) d) (leads f from to) w
 
 -- a walk under way: n states are listed, and there is room for those that are not marked
 pub record Under (f index picks marks list : List ℕ) (n : ℕ) : Type 0 where
@@ -67,21 +60,13 @@ pub record Under (f index picks marks list : List ℕ) (n : ℕ) : Type 0 where
   pub list-long : problemOf f .states ≤ length list
   pub marks-long : problemOf f .states ≤ length marks
   pub binary : (x : ℕ) → getD marks x 0 ≤ 1
-  pub room : n + left f marks ≤ problemOf f .states
+  pub room : n + unmarkedStates f marks ≤ problemOf f .states
 
 -- what a visit leaves: the model's trail at every depth of at least the unmarked states, and the list beyond it as it was
 pub record Over
     (f picks : List ℕ) (visited : ℕ → Trail → Trail) (marks list : List ℕ) (n : ℕ) (marks′ list′ : List ℕ) (r : ℕ) : Type 0 where
-  pub same : (d : ℕ) → left f marks ≤ d → visited d (trail marks list n) ≡ trail marks′ list′ r
+  pub same : (d : ℕ) → unmarkedStates f marks ≤ d → visited d (trail marks list n) ≡ trail marks′ list′ r
   pub stretch : Stretch f picks (trail marks list n) (trail marks′ list′ r)
   pub grows : n ≤ r
-  pub room : r + left f marks′ ≤ n + left f marks
+  pub room : r + unmarkedStates f marks′ ≤ n + unmarkedStates f marks
   pub rest : drop r list′ ≡ drop r list
-
--- what the walk leaves: the model's marks and list, and the entries beyond the list as they were
-pub record Walked (f picks before marks′ list′ : List ℕ) (r : ℕ) : Type 0 where
-  pub marks : marks′ ≡ walk (problemOf f) (entry picks) .marks
-  pub list : take r list′ ≡ walk (problemOf f) (entry picks) .list
-  pub count : r ≡ length (walk (problemOf f) (entry picks) .list)
-  pub few : r ≤ problemOf f .states
-  pub rest : drop r list′ ≡ drop r before

@@ -1,21 +1,21 @@
 // "C is the least of 1000 × c or 1000 × D over the picks at reached states that aren't goals."
 use crate::walk::MARKS;
-use crate::walk::is_goal;
 use model::GIVE_UP;
-use model::TICKS_PER_SECOND;
 use reading::index::INDEX;
 use reading::index::ROWS;
-use reading::numbers::u32_at;
+use reading::settings::give_up_cost;
+use reading::settings::start_of;
+use reading::states::is_goal;
 ghost use mathlib.Core.Path.{_≡_};
-ghost use Prim.Native.Nat.{_+_, _*_, _<_};
+ghost use Prim.Native.Nat.{_<_};
 ghost use mathlib.Core.Logic.{_⊎_};
 ghost use lib.ListN.{getD};
 ghost use Rattle.model.specs.Limits.{giveUp, maxRows};
 ghost use Rattle.model.specs.Problem.{giveUpCost};
 ghost use Rattle.model.specs.Sections.{problemOf};
-ghost use Rattle.model.specs.Value.{entry};
+ghost use Rattle.model.specs.Value.{byState};
 ghost use Rattle.model.specs.Walk.{leastTo};
-ghost use Rattle.walking.specs.Trails.{Walkable};
+ghost use Rattle.walking.specs.Walkable.{Walkable};
 ghost use Rattle.walking.specs.Costs.{PickCosts, Costed, lowerTo};
 
 // What a pick costs: the limit where it gives up, else its row's cost in ticks.
@@ -63,11 +63,10 @@ pub fn least_cost(
 ) -> u32
     requires { ⌜ Walkable (now file) (now index) × Costed (now file) (now picks) (now marks)
         × (n ≡ problemOf (now file) .states) × (getD (now marks) (problemOf (now file) .start) 0 ≡ 1) ⌝ }
-    ensures { λ r. ⌜ r ≡ leastTo (problemOf (now (file .entry))) (entry (now (picks .entry))) (now (marks .entry)) n ⌝ }
+    ensures { λ r. ⌜ r ≡ leastTo (problemOf (now (file .entry))) (byState (now (picks .entry))) (now (marks .entry)) n ⌝ }
 {
-    let limit = TICKS_PER_SECOND * u32_at(file, 10);
-    let start = u32_at(file, 2) as usize;
-    let mut least = pick_cost(index, picks[start], limit);
+    let limit = give_up_cost(file);
+    let mut least = pick_cost(index, picks[start_of(file)], limit);
     let mut s = 0;
     while s < n {
         least = lower(file, index, picks, marks, limit, s, least);

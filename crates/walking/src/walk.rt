@@ -2,16 +2,18 @@
 use model::MAX_STATES;
 use reading::index::INDEX;
 use reading::index::ROWS;
-use reading::numbers::byte_at;
 use reading::numbers::u16_at;
-use reading::numbers::u32_at;
+use reading::settings::start_of;
+use reading::states::is_goal;
 ghost use mathlib.Core.Path.{_≡_};
-ghost use Prim.Native.Nat.{_+_, _*_, _≤_, _<_};
+ghost use Prim.Native.Nat.{_+_, _≤_, _<_};
 ghost use lib.ListN.{length, getD};
 ghost use Rattle.model.specs.Limits.{maxRows, maxStates};
-ghost use Rattle.model.specs.Sections.{problemOf, statesAt};
+ghost use Rattle.model.specs.Sections.{problemOf};
 ghost use Rattle.reading.specs.Tests.{indexSize};
-ghost use Rattle.walking.specs.Trails.{Walkable, Picked, Outcomes, Under, Over, Walked, visitedState, visitedOutcomes};
+ghost use Rattle.walking.specs.Trails.{Picked, Outcomes, Under, Over, visitedState, visitedOutcomes};
+ghost use Rattle.walking.specs.Walkable.{Walkable};
+ghost use Rattle.walking.specs.Walked.{Walked};
 
 // "Each walk begins with 1,024 marks": one for each state that a file can have.
 pub const MARKS: usize = MAX_STATES;
@@ -29,7 +31,7 @@ fn wide(x: u32) -> usize
 }
 
 // Entry i of the index.
-fn entry(index: &[u32; INDEX], i: usize) -> usize
+fn index_at(index: &[u32; INDEX], i: usize) -> usize
     requires { ⌜ i < indexSize ⌝ }
     ensures { λ r. ⌜ r ≡ getD (now (index .entry)) i 0 ⌝ }
 {
@@ -41,28 +43,20 @@ fn picked(index: &[u32; INDEX], s: usize, pick: usize) -> Part
     requires { ⌜ (s < maxStates) × (getD (now index) (s + 1) 0 ≤ maxRows) ⌝ }
     ensures { λ r. ⌜ Picked (now (index .entry)) s pick (r .from) (r .to) ⌝ }
 {
-    if pick < entry(index, s) {
+    if pick < index_at(index, s) {
         return Part { from: 0, to: 0 };
     }
-    if entry(index, s + 1) <= pick {
+    if index_at(index, s + 1) <= pick {
         return Part { from: 0, to: 0 };
     }
     Part {
-        from: entry(index, ROWS + 2 * pick),
-        to: entry(index, ROWS + 2 * pick + 2),
+        from: index_at(index, ROWS + 2 * pick),
+        to: index_at(index, ROWS + 2 * pick + 2),
     }
 }
 
-// Whether state s is a goal.
-pub fn is_goal(file: &[u8], s: usize) -> bool
-    requires { ⌜ (statesAt (now file) ≡ 14) × (21 + 6 * s + 1 ≤ length (now file)) ⌝ }
-    ensures { λ r. ⌜ r ≡ problemOf (now (file .entry)) .goal s ⌝ }
-{
-    byte_at(file, 21 + 6 * s) == 1
-}
-
-// Visits state s, which is not marked: marks it, visits its outcomes, and then lists it unless it is a goal. The list has n
-// states before, and as many as the answer says after.
+// Visits state s, which is not marked: marks it, visits its outcomes, and then lists it unless it is a goal. The list has
+// n states before, and as many as the answer says after.
 fn visit_state(
     file: &[u8],
     index: &[u32; INDEX],
@@ -118,19 +112,24 @@ fn visit_outcomes(
     k
 }
 
-// Walks from the start: marks the reached states, lists those that are no goals, and answers how many are listed.
-pub fn walk(
-    file: &[u8],
-    index: &[u32; INDEX],
-    picks: &[u16],
-    marks: &mut [u8; MARKS],
-    list: &mut [u16],
-) -> usize
+// A walk done: the marks of the reached states, and how many states are listed.
+pub struct WalkDone {
+    pub marks: [u8; MARKS],
+    pub listed: usize,
+}
+
+// Walks from the start, with marks made fresh: marks the reached states, lists those that are no goals, and answers the
+// marks and how many are listed.
+pub fn walk(file: &[u8], index: &[u32; INDEX], picks: &[u16], list: &mut [u16]) -> WalkDone
     requires { ⌜ Walkable (now file) (now index)
         × (problemOf (now file) .states ≤ length (now picks)) × (problemOf (now file) .states ≤ length (now list)) ⌝ }
     ensures { λ r.
-        ⌜ Walked (now (file .entry)) (now (picks .entry)) (now (list .entry)) (now (marks .exit)) (now (list .exit)) r ⌝ }
+        ⌜ Walked (now (file .entry)) (now (picks .entry)) (now (list .entry)) (r .marks) (now (list .exit)) (r .listed) ⌝ }
 {
-    *marks = [0u8; MARKS];
-    visit_state(file, index, picks, marks, list, u32_at(file, 2) as usize, 0)
+    let mut done = WalkDone {
+        marks: [0u8; MARKS],
+        listed: 0,
+    };
+    done.listed = visit_state(file, index, picks, &mut done.marks, list, start_of(file), 0);
+    done
 }

@@ -1,5 +1,6 @@
 //! Compares the product's audit with `audit.rs`: verdict, place and excess, on files whole and
-//! damaged and on tables of many origins. Every solved run's own tables must be accepted with its C.
+//! damaged and on tables of many origins, and holds that the tables stay as they were lent. Every
+//! solved run's own tables must be accepted with its C.
 //!
 //! `compare_audit [seed] [files]`
 
@@ -22,17 +23,23 @@ const MOST_ROUNDS: u64 = 5_000;
 const CHANGES: usize = 8;
 /// How often each of the questions 15 to 19 must be met.
 const LEAST_MET: u64 = 200;
+/// How many there must be of other things.
+const LEAST: [(&str, u64); 3] =
+    [("accepted", 7_500), ("refused", 14_000), ("solved runs audited", 1_900)];
 
 /// The tables that an audit takes.
-#[derive(Clone)]
+#[derive(Clone, Debug, PartialEq)]
 struct Proposal {
     values: Vec<u32>,
     picks: Vec<u16>,
 }
 
-/// The product's audit.
-fn product(file: &[u8], proposal: &Proposal, answer: &mut [i64]) -> u8 {
-    library::audit(file, &proposal.values, &proposal.picks, answer)
+/// The product's audit, after which every entry of its tables is as lent, also beyond the states.
+fn product(tally: &mut Tally, file: &[u8], proposal: &Proposal, answer: &mut [i64]) -> u8 {
+    let mut lent = proposal.clone();
+    let code = library::audit(file, &mut lent.values, &mut lent.picks, answer);
+    tally.hold("the lent tables", &lent, proposal);
+    code
 }
 
 /// The paper's audit: its code and its answer.
@@ -56,7 +63,7 @@ fn compare(random: &mut Random, tally: &mut Tally, file: &[u8], proposal: &Propo
     for length in [ANSWER, random.below(ANSWER + 3)] {
         let mut given: Vec<i64> = noise(random, length);
         let (asked_code, asked) = asked_of_lent(code, answer, &given);
-        let given_code = product(file, proposal, &mut given);
+        let given_code = product(tally, file, proposal, &mut given);
         tally.hold("the code", &given_code, &asked_code);
         tally.hold("the answer", &given, &asked);
     }
@@ -80,7 +87,7 @@ fn compare_own(tally: &mut Tally, file: &[u8], proposal: &Proposal, least_cost: 
         return;
     };
     let mut answer = [-1; ANSWER];
-    let code = product(file, proposal, &mut answer);
+    let code = product(tally, file, proposal, &mut answer);
     tally.count("solved runs audited");
     tally.hold("the code on a solved run", &code, &ACCEPTED);
     tally.hold("the answer on a solved run", &answer, &[i64::from(least_cost), 0, 0]);
@@ -213,7 +220,7 @@ fn draft_of(random: &mut Random, number: u64) -> Draft {
 
 fn main() -> ExitCode {
     let (seed, files) = (argument(1, 1), argument(2, 4_000));
-    let mut tally = Tally::default();
+    let mut tally = Tally::asking(&LEAST);
     for number in 0..files {
         let mut random = Random::of_file(seed, number);
         let draft = draft_of(&mut random, number);

@@ -17,6 +17,8 @@ use std::process::{Command, ExitCode};
 const MOST_ROUNDS: u64 = 20_000;
 /// A standard input longer than any problem file.
 const VERY_LONG: usize = 200_000;
+/// How many there must be of each answer.
+const LEAST: [(&str, u64); 3] = [("solved", 240), ("spent", 1), ("refused", 60)];
 
 /// Compares the program's lines on one input.
 fn compare(tally: &mut Tally, program: &Program, case: &str, input: &[u8]) {
@@ -68,7 +70,7 @@ fn compare_set_files(tally: &mut Tally, program: &Program) {
 fn main() -> ExitCode {
     let program = Program::named(1, "plan");
     let (seed, files) = (argument(2, 1), argument(3, 600));
-    let mut tally = Tally::default();
+    let mut tally = Tally::asking(&LEAST);
     compare_set_files(&mut tally, &program);
     for number in 0..files {
         let mut random = Random::of_file(seed, number);

@@ -24,6 +24,14 @@ const MOST_ROUNDS: u64 = 20_000;
 const DAMAGES: usize = 6;
 /// How often each of the questions 15 to 19 must be met.
 const LEAST_MET: u64 = 20;
+/// How many there must be of each answer; `refused` are the audits that refuse.
+const LEAST: [(&str, u64); 5] = [
+    ("plans, solved", 120),
+    ("plans, spent", 1),
+    ("plans, refused", 25),
+    ("audits, accepted", 500),
+    ("refused", 500),
+];
 /// Files and tables far longer than any that could be meant, in bytes.
 const VERY_LONG: usize = 5_000_000;
 /// Lengths of files that hold more than they should: about a buffer of 65,536 bytes, and far above.
@@ -97,6 +105,8 @@ impl Day {
             self.tally.count("plans, solved");
             let asked = format!("accepted {least_cost}\n");
             self.tally.hold("the verdict on a solved run", &audit_line(verdict), &asked);
+        } else {
+            self.tally.count("plans, spent");
         }
         self.raise_a_tick(random, file, &tables);
         for _ in 0..DAMAGES {
@@ -239,7 +249,7 @@ fn main() -> ExitCode {
     let (plan, audit) = (Program::named(1, "plan"), Program::named(2, "audit"));
     let (seed, files) = (argument(3, 1), argument(4, 300));
     let folder = Folder::new("compare-programs");
-    let mut day = Day { plan, audit, folder, tally: Tally::default() };
+    let mut day = Day { plan, audit, folder, tally: Tally::asking(&LEAST) };
     day.compare_p();
     day.compare_lengths(&mut Random::new(seed));
     for number in 0..files {

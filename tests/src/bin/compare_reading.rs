@@ -16,6 +16,9 @@ use std::process::ExitCode;
 
 /// How often each of the questions 1 to 11 must be met.
 const LEAST_MET: u64 = 50;
+/// How many there must be of other things.
+const LEAST: [(&str, u64); 3] =
+    [("passed", 4_000), ("refused", 10_000), ("stretches, with rows", 6_000)];
 
 /// The code and the answer that the paper asks for.
 fn asked_check(file: &[u8]) -> (u8, [u64; ANSWER]) {
@@ -93,7 +96,7 @@ fn compare_cuts(random: &mut Random, tally: &mut Tally) {
 
 fn main() -> ExitCode {
     let (seed, files) = (argument(1, 1), argument(2, 30_000));
-    let mut tally = Tally::default();
+    let mut tally = Tally::asking(&LEAST);
     compare_cuts(&mut Random::new(seed), &mut tally);
     for number in 0..files {
         let mut random = Random::of_file(seed, number);

@@ -1,6 +1,7 @@
 //! Compares the product's runs with `solver.rs`: the answer and every entry of the four lent tables,
-//! at budgets from 0 to the largest number, on files whole and damaged. All of it runs on a thread
-//! with a stack of 512 KiB.
+//! at budgets from 0 to the largest number, on files whole and damaged. Where a run is solved the
+//! product's audit of the tables as they were left must accept them, with the run's C. All of it
+//! runs on a thread with a stack of 512 KiB.
 //!
 //! `compare_solving [seed] [files]`
 
@@ -9,7 +10,7 @@ use comparisons::encode::Draft;
 use comparisons::examples::{file_p, one_state};
 use comparisons::harness::{argument, noise, Tally};
 use comparisons::library::{
-    self, asked_of_lent, asked_of_run, ANSWER, REFUSED, SOLVED, SPENT, TOO_SHORT,
+    self, asked_of_lent, asked_of_run, ACCEPTED, ANSWER, REFUSED, SOLVED, SPENT, TOO_SHORT,
 };
 use comparisons::limits::*;
 use comparisons::made::{at_limits, deep_chain, made};
@@ -28,6 +29,13 @@ const MANY_ROUNDS: u64 = 100;
 const LARGE: u64 = 1_000_000;
 /// How often questions 12 and 13 must be met.
 const LEAST_MET: u64 = 1_000;
+/// How many there must be of other things.
+const LEAST: [(&str, u64); 4] = [
+    ("solved", 19_000),
+    ("solved after 100 rounds or more", 1_000),
+    ("spent", 13_000),
+    ("refused", 23_000),
+];
 
 /// Tables of noise: mostly longer than needed, or just long enough, or one of them short.
 fn lent(random: &mut Random, states: usize, rows: usize) -> OwnedTables {
@@ -72,8 +80,7 @@ fn compare_run(
     let (asked_code, asked_answer) = asked_of_lent(code, answer, &given_answer);
     match asked_code {
         REFUSED => tally.meet(asked_answer[0]),
-        SOLVED if asked_answer[0] >= MANY_ROUNDS => tally.count("solved after 100 rounds or more"),
-        SOLVED => tally.count("solved before"),
+        SOLVED => tally.count("solved"),
         SPENT => tally.count("spent"),
         _ => tally.count("answers lent too short"),
     }
@@ -84,6 +91,23 @@ fn compare_run(
     tally.hold("the picks", &given.picks, &asked.picks);
     tally.hold("the remembered values", &given.remembered, &asked.remembered);
     tally.hold("the walk list", &given.walk, &asked.walk);
+    if asked_code == SOLVED {
+        if asked_answer[0] >= MANY_ROUNDS {
+            tally.count("solved after 100 rounds or more");
+        }
+        compare_own_audit(tally, file, &mut given, given_answer[2]);
+    }
+}
+
+/// "Whenever a run of these rounds ends solved, the audit accepts that file with the values and
+/// picks the run left, and gives the run's C": the product's own run and audit, one after the other.
+fn compare_own_audit(tally: &mut Tally, file: &[u8], tables: &mut OwnedTables, least_cost: u64) {
+    let left = tables.clone();
+    let mut answer = [-1; ANSWER];
+    let code = library::audit(file, &mut tables.values, &mut tables.picks, &mut answer);
+    tally.hold("the audit's code", &code, &ACCEPTED);
+    tally.hold("the audit's answer", &answer, &[least_cost as i64, 0, 0]);
+    tally.hold("the tables after the audit", tables, &left);
 }
 
 /// The budgets to run a file at: the paper's ends, small ones, and those about the run's own end.
@@ -141,7 +165,7 @@ fn draft_of(random: &mut Random, number: u64) -> Draft {
 
 /// Compares the files of a seed.
 fn compare(seed: u64, files: u64) -> ExitCode {
-    let mut tally = Tally::default();
+    let mut tally = Tally::asking(&LEAST);
     for number in 0..files {
         let mut random = Random::of_file(seed, number);
         let draft = draft_of(&mut random, number);

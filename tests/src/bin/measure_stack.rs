@@ -30,8 +30,8 @@ fn solve(file: &[u8], tables: &mut OwnedTables) {
 }
 
 /// The product's audit of the tables.
-fn audit(file: &[u8], tables: &OwnedTables) {
-    let code = library::audit(file, &tables.values, &tables.picks, &mut [0; ANSWER]);
+fn audit(file: &[u8], tables: &mut OwnedTables) {
+    let code = library::audit(file, &mut tables.values, &mut tables.picks, &mut [0; ANSWER]);
     assert_eq!(code, ACCEPTED);
 }
 
@@ -50,7 +50,7 @@ fn child(function: &str, kib: &str) {
     let thread = std::thread::Builder::new().stack_size(stack);
     let work = move || match function.as_str() {
         "solve" => solve(&file, &mut tables),
-        "audit" => audit(&file, &tables),
+        "audit" => audit(&file, &mut tables),
         _ => check(&file),
     };
     thread.spawn(work).expect("a thread").join().expect("it ends well");

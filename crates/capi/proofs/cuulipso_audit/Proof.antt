@@ -4,7 +4,7 @@ use borrow.Author.Tests.{le-leb, lt-leb}
 use mathlib.Core.Path.{_∙_, sym, ap}
 use mir.Syntax.{w64}
 use mir.ValLaws.{toZ-pos, toZ-ofZ}
-use Rattle.model.specs.Answers.{auditedOf}
+use Rattle.model.specs.Answers.{auditCarries}
 use borrow.Author.Needs.{needs}
 use native.Mathlib.Omega.{arith}
 use Rattle.capi.proofs.cuulipso_audit.Statement.{statement}
@@ -42,7 +42,7 @@ same-length c = search needs
 
 returns-2 : tie.Need-returns-2
 returns-2 c =
-    let e = sym (c .before .before .before .before .before .before .audit .ensures .0) ∙ ap auditedOf (c .before .before .before .before .said .given .1) in
+    let e = sym (c .before .before .before .before .before .before .audit .ensures .0) ∙ ap auditCarries (c .before .before .before .before .said .given .1) in
     let v = c .before .before .before .before .said .given .0 in
     let t = c .before .before .before .known-told .given in
     let n = toZ-pos w64 (v .0) (omega (arith, t)) in
@@ -53,13 +53,16 @@ same-length-2 c = search needs
 
 returns-3 : tie.Need-returns-3
 returns-3 c =
-    let e = sym (c .before .before .before .before .before .before .audit .ensures .0) ∙ ap auditedOf (c .before .before .before .before .said2 .given .1) in
+    let e = sym (c .before .before .before .before .before .before .audit .ensures .0) ∙ ap auditCarries (c .before .before .before .before .said2 .given .1) in
     let v = c .before .before .before .before .said2 .given .0 in
     let t = c .before .before .before .known-told2 .given in
     let q = toZ-pos w64 (v .0) (omega (arith, t)) in
     let i = toZ-pos w64 (v .1 .0) (omega (arith, t)) in
     let x = toZ-ofZ w64 (v .1 .1 .0) (record { sfits = t .1 .1 .0 .1 }) in
-    record { status-is = simp (le-leb _ _ (c .before .before .before .before .before .before .before .if1 .left), e); table-is = c .before .put3-signed2 .ensures ∙ simp (le-leb _ _ (c .before .before .before .before .before .before .before .if1 .left), e, q, i, x) }
+    record {
+      status-is = simp (le-leb _ _ (c .before .before .before .before .before .before .before .if1 .left), e);
+      table-is = c .before .put3-signed2 .ensures ∙ simp (le-leb _ _ (c .before .before .before .before .before .before .before .if1 .left), e, q, i, x);
+    }
 
 pub cuulipso-audit-spec : {M : Type 1} → statement M
 cuulipso-audit-spec =

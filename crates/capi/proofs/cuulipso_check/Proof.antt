@@ -2,7 +2,7 @@
 -- Made by `places make` from answers/cuulipso_check.ans: edit that file, and not this one.
 use borrow.Author.Tests.{le-leb, lt-leb}
 use mathlib.Core.Path.{_∙_, sym, ap}
-use Rattle.model.specs.Answers.{verdictOf}
+use Rattle.model.specs.Answers.{fileCarries}
 use borrow.Author.Needs.{needs}
 use Rattle.capi.proofs.cuulipso_check.Statement.{statement}
 use Rattle.capi.proofs.cuulipso_check.Tie as tie
@@ -36,7 +36,7 @@ same-length c = search needs
 
 returns-2 : tie.Need-returns-2
 returns-2 c =
-    let e = sym (c .before .before .before .before .before .before .check .ensures) ∙ ap verdictOf (c .before .before .before .before .enum-told .given .1) in
+    let e = sym (c .before .before .before .before .before .before .check .ensures) ∙ ap fileCarries (c .before .before .before .before .enum-told .given .1) in
     record { status-is = simp (le-leb _ _ (c .before .before .before .before .before .before .before .if1 .left), e); table-is = c .before .before .put3 .ensures ∙ simp (le-leb _ _ (c .before .before .before .before .before .before .before .if1 .left), e) }
 
 same-length-2 : tie.Need-same-length-2
@@ -44,7 +44,7 @@ same-length-2 c = search needs
 
 returns-3 : tie.Need-returns-3
 returns-3 c =
-    let e = sym (c .before .before .before .before .before .before .before .check .ensures) ∙ ap verdictOf (c .before .before .before .before .before .said .given .1) in
+    let e = sym (c .before .before .before .before .before .before .before .check .ensures) ∙ ap fileCarries (c .before .before .before .before .before .said .given .1) in
     record { status-is = simp (le-leb _ _ (c .before .before .before .before .before .before .before .before .if1 .left), e); table-is = c .before .before .put32 .ensures ∙ simp (le-leb _ _ (c .before .before .before .before .before .before .before .before .if1 .left), e) }
 
 pub cuulipso-check-spec : {M : Type 1} → statement M

@@ -2,7 +2,7 @@
 -- Made by `places make` from answers/cuulipso_solve.ans: edit that file, and not this one.
 use borrow.Author.Tests.{le-leb, lt-leb}
 use mathlib.Core.Path.{_∙_, sym, ap}
-use Rattle.model.specs.Answers.{answerOf}
+use Rattle.model.specs.Answers.{solveCarries}
 use borrow.Author.Needs.{needs}
 use Rattle.capi.proofs.cuulipso_solve.Statement.{statement}
 use Rattle.capi.proofs.cuulipso_solve.Tie as tie
@@ -10,7 +10,7 @@ use Rattle.capi.proofs.cuulipso_solve.Tie as tie
 returns : tie.Need-returns
 returns c =
     record {
-      numbers = record { status-is = simp (lt-leb _ _ (c .if1 .taken)); table-is = simp (lt-leb _ _ (c .if1 .taken)) };
+      numbers-are = record { status-is = simp (lt-leb _ _ (c .if1 .taken)); table-is = simp (lt-leb _ _ (c .if1 .taken)) };
       tables-are = simp (lt-leb _ _ (c .if1 .taken));
     }
 
@@ -61,9 +61,10 @@ same-length-5 c = search needs
 
 returns-2 : tie.Need-returns-2
 returns-2 c =
-    let e = sym (c .before .before .before .before .before .before .before .before .before .before .before .before .before .before .before .solve .ensures .0 .answer) ∙ ap answerOf (c .before .before .before .before .before .said .given .1) in
+    let e = sym (c .before .before .before .before .before .before .before .before .before .before .before .before .before .before .before .solve .ensures .0 .answer) ∙ ap solveCarries (c .before .before .before .before .before .said .given .1) in
     record {
-      numbers = record { status-is = simp (le-leb _ _ (c .before .before .before .before .before .before .before .before .before .before .before .before .before .before .before .before .before .before .before .before .if1 .left), e); table-is = c .before .before .put3 .ensures ∙ simp (le-leb _ _ (c .before .before .before .before .before .before .before .before .before .before .before .before .before .before .before .before .before .before .before .before .if1 .left), e) };
+      numbers-are =
+          record { status-is = simp (le-leb _ _ (c .before .before .before .before .before .before .before .before .before .before .before .before .before .before .before .before .before .before .before .before .if1 .left), e); table-is = c .before .before .put3 .ensures ∙ simp (le-leb _ _ (c .before .before .before .before .before .before .before .before .before .before .before .before .before .before .before .before .before .before .before .before .if1 .left), e) };
       tables-are = simp (le-leb _ _ (c .before .before .before .before .before .before .before .before .before .before .before .before .before .before .before .before .before .before .before .before .if1 .left)) (c .before .before .before .before .before .before .before .before .before .before .before .before .before .before .before .solve .ensures .0 .left);
     }
 
@@ -84,9 +85,10 @@ same-length-10 c = search needs
 
 returns-3 : tie.Need-returns-3
 returns-3 c =
-    let e = sym (c .before .before .before .before .before .before .before .before .before .before .before .before .before .before .before .solve .ensures .0 .answer) ∙ ap answerOf (c .before .before .before .before .before .said2 .given .1) in
+    let e = sym (c .before .before .before .before .before .before .before .before .before .before .before .before .before .before .before .solve .ensures .0 .answer) ∙ ap solveCarries (c .before .before .before .before .before .said2 .given .1) in
     record {
-      numbers = record { status-is = simp (le-leb _ _ (c .before .before .before .before .before .before .before .before .before .before .before .before .before .before .before .before .before .before .before .before .if1 .left), e); table-is = c .before .before .put32 .ensures ∙ simp (le-leb _ _ (c .before .before .before .before .before .before .before .before .before .before .before .before .before .before .before .before .before .before .before .before .if1 .left), e) };
+      numbers-are =
+          record { status-is = simp (le-leb _ _ (c .before .before .before .before .before .before .before .before .before .before .before .before .before .before .before .before .before .before .before .before .if1 .left), e); table-is = c .before .before .put32 .ensures ∙ simp (le-leb _ _ (c .before .before .before .before .before .before .before .before .before .before .before .before .before .before .before .before .before .before .before .before .if1 .left), e) };
       tables-are = simp (le-leb _ _ (c .before .before .before .before .before .before .before .before .before .before .before .before .before .before .before .before .before .before .before .before .if1 .left)) (c .before .before .before .before .before .before .before .before .before .before .before .before .before .before .before .solve .ensures .0 .left);
     }
 
@@ -107,9 +109,10 @@ same-length-15 c = search needs
 
 returns-4 : tie.Need-returns-4
 returns-4 c =
-    let e = sym (c .before .before .before .before .before .before .before .before .before .before .before .before .before .before .before .solve .ensures .0 .answer) ∙ ap answerOf (c .before .before .before .before .before .said3 .given .1) in
+    let e = sym (c .before .before .before .before .before .before .before .before .before .before .before .before .before .before .before .solve .ensures .0 .answer) ∙ ap solveCarries (c .before .before .before .before .before .said3 .given .1) in
     record {
-      numbers = record { status-is = simp (le-leb _ _ (c .before .before .before .before .before .before .before .before .before .before .before .before .before .before .before .before .before .before .before .before .if1 .left), e); table-is = c .before .before .put33 .ensures ∙ simp (le-leb _ _ (c .before .before .before .before .before .before .before .before .before .before .before .before .before .before .before .before .before .before .before .before .if1 .left), e) };
+      numbers-are =
+          record { status-is = simp (le-leb _ _ (c .before .before .before .before .before .before .before .before .before .before .before .before .before .before .before .before .before .before .before .before .if1 .left), e); table-is = c .before .before .put33 .ensures ∙ simp (le-leb _ _ (c .before .before .before .before .before .before .before .before .before .before .before .before .before .before .before .before .before .before .before .before .if1 .left), e) };
       tables-are = simp (le-leb _ _ (c .before .before .before .before .before .before .before .before .before .before .before .before .before .before .before .before .before .before .before .before .if1 .left)) (c .before .before .before .before .before .before .before .before .before .before .before .before .before .before .before .solve .ensures .0 .left);
     }
 

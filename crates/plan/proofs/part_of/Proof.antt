@@ -19,7 +19,7 @@ same-length : tie.Need-same-length
 same-length c = c .before .before .put2 .kept .0 ∙ (c .before .before .before .before .before .before .before .put .kept .0)
 
 returns : tie.Need-returns
-returns c = more _ _ _ _ _ _ (c .before .before .put2 .kept .0) (c .before .before .before .before .before .before .before .put .ensures) (c .before .before .put2 .ensures)
+returns c = more _ (c .before .before .before .before .before .before .before .put .ensures) (c .before .before .put2 .ensures)
 
 pub part-of-spec : {M : Type 1} → statement M
 part-of-spec =

@@ -19,7 +19,7 @@ same-length c = c .before .before .put-states .kept .0 ∙ (c .before .before .b
 
 returns : tie.Need-returns
 returns c = (
-  more _ _ _ _ _ _ (c .before .before .put-states .kept .0) (c .before .before .before .before .before .before .put-answer .ensures .0) (c .before .before .put-states .ensures),
+  more _ (c .before .before .before .before .before .before .put-answer .ensures .0) (c .before .before .put-states .ensures),
   run-most _ _ _ (λ j. omega (arith, c .before .before .before .before .before .before .before .before .before .before .before .shared-slice-known .given j)) (λ j. omega (arith, c .before .before .before .before .before .before .before .before .before .before .shared-slice-known2 .given j)) _ _
       (c .before .before .before .before .before .before .put-answer .ensures .1),
 )

@@ -19,10 +19,7 @@ same-length : tie.Need-same-length
 same-length c = c .before .before .put-next2 .kept .0 ∙ (c .before .before .before .before .before .before .put-next .kept .0) ∙ (c .before .before .before .before .before .before .before .before .before .before .put .kept .0)
 
 returns : tie.Need-returns
-returns c =
-    more _ _ _ _ _ _ (c .before .before .put-next2 .kept .0)
-    (more _ _ _ _ _ _ (c .before .before .before .before .before .before .put-next .kept .0) (c .before .before .before .before .before .before .before .before .before .before .put .ensures) (c .before .before .before .before .before .before .put-next .ensures))
-    (c .before .before .put-next2 .ensures)
+returns c = more _ (more _ (c .before .before .before .before .before .before .before .before .before .before .put .ensures) (c .before .before .before .before .before .before .put-next .ensures)) (c .before .before .put-next2 .ensures)
 
 pub put-counts-spec : {M : Type 1} → statement M
 put-counts-spec =

@@ -24,7 +24,7 @@ same-length : tie.Need-same-length
 same-length c = c .before .before .put-state .kept .0
 
 returns : tie.Need-returns
-returns c = line-put _ (c .before .before .before .before .before .before .before .before .before .before .args .out .now) _ _ (c .before .before .before .before .before .before .before .before .before .before .args .at) _ (c .before .before .before .before .before .before .if1 .taken) (c .before .before .put-state .ensures)
+returns c = line-put _ (c .before .before .before .before .before .before .before .before .before .before .args .at) _ (c .before .before .before .before .before .before .if1 .taken) (c .before .before .put-state .ensures)
 
 returns-2 : tie.Need-returns-2
 returns-2 c = line-left _ _ _ _ (c .if1 .left) (c .before .before .before .before .pre .0)

@@ -1,12 +1,13 @@
--- `index_rows` fills in the rows. So far the total is the sum and the entries are made, and a row has at most 255 outcomes.
+-- `index_rows` fills in the rows. So far the total is the sum and the entries are made; a row's number of outcomes is a byte.
 -- Made by `places make` from answers/index/index_rows.ans: edit that file, and not this one.
 use Prim.Native.Nat.{_≤_, _-_, _*_, _+_}
 use mathlib.Core.Path.{_≡_, refl}
 use Rattle.model.specs.Search.{sumTo}
 use Rattle.guarantee.specs.Searches.{sum-next}
 use Rattle.guarantee.specs.WellFormed.{row-cost}
+use Rattle.reading.specs.Bounds.{maxByte}
 use Rattle.reading.specs.Tests.{outcomeCountAt, ticksAt, rowEntries}
-use Rattle.reading.proofs.Indexing.{entries-next}
+use Rattle.reading.proofs.RowEntries.{entries-next}
 use native.Mathlib.Omega.{arith}
 use Rattle.reading.proofs.index.index_rows.Statement.{statement}
 use Rattle.reading.proofs.index.index_rows.Tie as tie
@@ -14,7 +15,7 @@ use Rattle.reading.proofs.index.index_rows.Tie as tie
 abbrev Inv-loop : tie.InvT-loop
 Inv-loop file at n at3 index₀ total₀ r₀ index total r =
     (r ≤ n)
-    × (total ≤ 255 * r)
+    × (total ≤ maxByte * r)
     × (total ≡ sumTo (outcomeCountAt file at) r)
     × (index ≡ rowEntries (λ k. at3 + 4 * sumTo (outcomeCountAt file at) k) (ticksAt file at) index₀ r)
 

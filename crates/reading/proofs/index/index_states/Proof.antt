@@ -1,4 +1,4 @@
--- `index_states` fills in the first rows. So far the total is the sum and the table is filled, and a state has at most 255 rows.
+-- `index_states` fills in the first rows. So far the total is the sum and the table is filled; a state's row number is a byte.
 -- Made by `places make` from answers/index/index_states.ans: edit that file, and not this one.
 use Prim.Native.Nat.{_≤_, _-_, _*_}
 use mathlib.Core.Path.{_≡_, refl}
@@ -6,6 +6,7 @@ use Rattle.model.specs.Search.{sumTo}
 use Rattle.model.specs.Rounds.{fillTo}
 use Rattle.guarantee.specs.Searches.{sum-next}
 use Rattle.guarantee.specs.Tables.{fill-next}
+use Rattle.reading.specs.Bounds.{maxByte}
 use Rattle.reading.specs.Tests.{rowCountAt}
 use native.Mathlib.Omega.{arith}
 use Rattle.reading.proofs.index.index_states.Statement.{statement}
@@ -13,7 +14,10 @@ use Rattle.reading.proofs.index.index_states.Tie as tie
 
 abbrev Inv-loop : tie.InvT-loop
 Inv-loop file at n index₀ total₀ s₀ index total s =
-    (s ≤ n) × (total ≤ 255 * s) × (total ≡ sumTo (rowCountAt file at) s) × (index ≡ fillTo (sumTo (rowCountAt file at)) index₀ s)
+    (s ≤ n)
+    × (total ≤ maxByte * s)
+    × (total ≡ sumTo (rowCountAt file at) s)
+    × (index ≡ fillTo (sumTo (rowCountAt file at)) index₀ s)
 
 abbrev μ-loop : tie.MeasureT-loop
 μ-loop file at n index₀ total₀ s₀ index total s = n - s

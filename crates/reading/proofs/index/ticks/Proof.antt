@@ -3,7 +3,7 @@
 use borrow.Author.Tests.{eq-eqb, ne-eqb}
 use Rattle.model.specs.Sections.{secondsOn, rateSeconds}
 use Rattle.guarantee.specs.WellFormed.{rate-high}
-use Rattle.reading.proofs.Indexing.{seconds-fit, rate-fits}
+use Rattle.reading.proofs.RowEntries.{seconds-fit, rate-fits}
 use native.Mathlib.Omega.{arith}
 use Rattle.reading.proofs.index.ticks.Statement.{statement}
 use Rattle.reading.proofs.index.ticks.Tie as tie

@@ -1,6 +1,6 @@
 -- `row_value` hands the row's part of the file to the weighted sum: the part that the index gives holds the row's outcomes.
 -- Made by `places make` from answers/value/row_value.ans: edit that file, and not this one.
-use Rattle.reading.proofs.RowParts.{part-ordered, part-inside, sum-there, cost-fits, row-value-is}
+use Rattle.reading.proofs.RowValues.{part-ordered, part-inside, sum-there, cost-fits, row-value-is}
 use borrow.Author.Needs.{needs}
 use native.Mathlib.Omega.{arith}
 use Rattle.reading.proofs.value.row_value.Statement.{statement}
@@ -19,7 +19,7 @@ element-copy-out-from : tie.Need-element-copy-out-from
 element-copy-out-from c = search needs
 
 cast-from : tie.Need-cast-from
-cast-from c = omega (arith, part-ordered _ _ _ _ (c .before .before .before .pre), part-inside _ _ _ _ (c .before .before .before .pre))
+cast-from c = omega (arith, part-ordered (c .before .before .before .pre), part-inside (c .before .before .before .pre))
 
 mul-cost : tie.Need-mul-cost
 mul-cost c = search needs
@@ -37,7 +37,7 @@ element-copy-out-cost : tie.Need-element-copy-out-cost
 element-copy-out-cost c = search needs
 
 cast-cost : tie.Need-cast-cost
-cast-cost c = omega (arith, cost-fits _ _ _ _ (c .before .before .before .before .pre) (λ i. c .before .before .before .shared-slice-known .given i .fits))
+cast-cost c = omega (arith, cost-fits (c .before .before .before .before .pre) (λ i. c .before .before .before .shared-slice-known .given i .fits))
 
 mul-to : tie.Need-mul-to
 mul-to c = search needs
@@ -55,28 +55,28 @@ element-copy-out-to : tie.Need-element-copy-out-to
 element-copy-out-to c = search needs
 
 cast-to : tie.Need-cast-to
-cast-to c = omega (arith, part-inside _ _ _ _ (c .before .before .before .before .before .pre))
+cast-to c = omega (arith, part-inside (c .before .before .before .before .before .pre))
 
 sub-weighted-sum : tie.Need-sub-weighted-sum
-sub-weighted-sum c = part-ordered _ _ _ _ (c .before .before .before .before .before .pre)
+sub-weighted-sum c = part-ordered (c .before .before .before .before .before .pre)
 
 part-weighted-sum-start : tie.Need-part-weighted-sum-start
-part-weighted-sum-start c = part-ordered _ _ _ _ (c .before .before .before .before .before .pre)
+part-weighted-sum-start c = part-ordered (c .before .before .before .before .before .pre)
 
 part-weighted-sum-end : tie.Need-part-weighted-sum-end
-part-weighted-sum-end c = part-inside _ _ _ _ (c .before .before .before .before .before .pre)
+part-weighted-sum-end c = part-inside (c .before .before .before .before .before .pre)
 
 weighted-sum-requires : tie.Need-weighted-sum-requires
-weighted-sum-requires c κs = sum-there _ _ _ _ (c .before .before .before .before .before .before .pre)
+weighted-sum-requires c κs = sum-there (c .before .before .before .before .before .before .pre)
 
 average-requires : tie.Need-average-requires
 average-requires c κs = search needs
 
 add-result : tie.Need-add-result
-add-result c = omega (arith, cost-fits _ _ _ _ (c .before .before .before .before .before .before .before .before .pre) (λ i. c .before .before .before .before .before .before .before .shared-slice-known .given i .fits), c .before .weighted-sum .ok, c .average .ensures)
+add-result c = omega (arith, cost-fits (c .before .before .before .before .before .before .before .before .pre) (λ i. c .before .before .before .before .before .before .before .shared-slice-known .given i .fits), c .before .weighted-sum .ok, c .average .ensures)
 
 returns : tie.Need-returns
-returns c = rw (c .average .ensures, c .before .weighted-sum .ensures) (row-value-is _ _ _ _ (c .before .before .before .before .before .before .before .before .pre) _)
+returns c = rw (c .average .ensures, c .before .weighted-sum .ensures) (row-value-is (c .before .before .before .before .before .before .before .before .pre) _)
 
 pub row-value-spec : {M : Type 1} → statement M
 row-value-spec =

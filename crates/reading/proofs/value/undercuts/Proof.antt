@@ -1,8 +1,8 @@
 -- `undercuts` compares the row value where the cost alone does not tell: a row's value is at least its cost.
 -- Made by `places make` from answers/value/undercuts.ans: edit that file, and not this one.
 use mathlib.Core.Path.{sym}
-use Rattle.model.specs.Value.{entry}
-use Rattle.reading.proofs.RowParts.{cost-fits, cost-passes}
+use Rattle.model.specs.Value.{byState}
+use Rattle.reading.proofs.RowValues.{cost-fits, cost-passes}
 use borrow.Author.Needs.{needs}
 use native.Mathlib.Omega.{arith}
 use Rattle.reading.proofs.value.undercuts.Statement.{statement}
@@ -24,10 +24,10 @@ element-copy-out-cost : tie.Need-element-copy-out-cost
 element-copy-out-cost c = search needs
 
 cast-cost : tie.Need-cast-cost
-cast-cost c = omega (arith, cost-fits _ _ _ _ (c .before .before .before .pre) (λ i. c .before .before .shared-slice-known .given i .fits))
+cast-cost c = omega (arith, cost-fits (c .before .before .before .pre) (λ i. c .before .before .shared-slice-known .given i .fits))
 
 returns : tie.Need-returns
-returns c = sym (cost-passes _ _ _ _ (c .before .before .before .before .pre) (entry (c .before .before .before .before .args .values .now)) _ (c .if1 .taken))
+returns c = sym (cost-passes (c .before .before .before .before .pre) (byState (c .before .before .before .before .args .values .now)) _ (c .if1 .taken))
 
 row-value-requires : tie.Need-row-value-requires
 row-value-requires c κs = c .before .before .before .before .pre

@@ -1,6 +1,6 @@
 -- `solve` hands over what `solve_file` answers; that the run ends and passes the audit are laws of the solution that it leaves.
 -- Made by `places make` from answers/solve/solve.ans: edit that file, and not this one.
-use Rattle.solving.specs.Promises.{ends-solved, passes-audit}
+use Rattle.solving.proofs.Promising.{promised}
 use borrow.Author.Needs.{needs}
 use Rattle.solving.proofs.solve.solve.Statement.{statement}
 use Rattle.solving.proofs.solve.solve.Tie as tie
@@ -21,9 +21,7 @@ same-length-4 : tie.Need-same-length-4
 same-length-4 c = search needs
 
 returns : tie.Need-returns
-returns c =
-    let h = c .before .before .before .before .before .before .before .before .solve-file .ensures in
-    (h, (ends-solved _ _ _ _ _ h, passes-audit _ _ _ _ _ h))
+returns c = promised _ _ _ (c .before .before .before .before .before .before .before .before .solve-file .ensures)
 
 pub solve-spec : {M : Type 1} → statement M
 solve-spec =

@@ -1,28 +1,29 @@
--- `solve` puts questions 1 to 13 in order, and solves where they all say yes. A no leaves the tables as they were lent.
+-- `solve_file` puts questions 1 to 13 in order, and solves where they all say yes. A no leaves the tables as they were lent.
 -- Made by `places make` from answers/solve/solve_file.ans: edit that file, and not this one.
 use Prim.Native.Nat.{ℕ}
 use mathlib.Core.Path.{_∙_, sym, ap}
 use lib.ListN.{length-replicate}
 use Rattle.model.specs.Answers.{verdictOf}
-use Rattle.solving.specs.Finishing.{layout-passes, file-refused, tables-refused, tests-are}
+use Rattle.reading.specs.Tests.{indexSize}
+use Rattle.solving.proofs.Finishing.{file-refused, tables-refused, tests-are}
 use borrow.Author.Needs.{needs}
 use Rattle.solving.proofs.solve.solve_file.Statement.{statement}
 use Rattle.solving.proofs.solve.solve_file.Tie as tie
 
 questions-requires : tie.Need-questions-requires
-questions-requires c κs = length-replicate {A = ℕ} 9219 0
+questions-requires c κs = length-replicate {A = ℕ} indexSize 0
 
 enum-known-about-file : tie.Need-enum-known-about-file
 enum-known-about-file c = search needs
 
 returns : tie.Need-returns
-returns c = file-refused _ _ _ _ _ (sym (ap verdictOf (c .before .about-file .given .1)) ∙ (c .before .before .before .questions .ensures .verdict))
+returns c = file-refused _ _ _ (sym (ap verdictOf (c .before .about-file .given .1)) ∙ (c .before .before .before .questions .ensures .verdict))
 
 enum-told : tie.Need-enum-told
 enum-told c = search needs
 
 layout-of-requires : tie.Need-layout-of-requires
-layout-of-requires c κs = layout-passes _ (sym (c .before .before .questions .ensures .verdict) ∙ ap verdictOf (c .enum-told .given .1))
+layout-of-requires c κs = c .before .before .questions .ensures .ready (ap verdictOf (c .enum-told .given .1)) .whole
 
 solve-questions-requires : tie.Need-solve-questions-requires
 solve-questions-requires c κs = search needs
@@ -32,10 +33,10 @@ enum-known-about-tables c = search needs
 
 returns-2 : tie.Need-returns-2
 returns-2 c =
-    tables-refused _ _ _ _ _
+    tables-refused _ _ _
     (sym (ap verdictOf (c .before .before .before .before .before .enum-told .given .1)) ∙ (c .before .before .before .before .before .before .before .questions .ensures .verdict))
     (sym (ap verdictOf (c .before .about-tables .given .1))
-    ∙ (c .before .before .before .solve-questions .ensures ∙ tests-are _ _ _ _ _ _ _ _ _ _ _ _ (c .before .before .before .before .layout-of .ensures)))
+    ∙ (c .before .before .before .solve-questions .ensures ∙ tests-are _ _ _ (c .before .before .before .before .layout-of .ensures .states-are) (c .before .before .before .before .layout-of .ensures .rows-are)))
 
 enum-told-2 : tie.Need-enum-told-2
 enum-told-2 c = search needs
@@ -45,7 +46,7 @@ solve-ready-requires c κs =
     record {
       file-passes = sym (c .before .before .before .before .before .before .before .before .before .before .before .questions .ensures .verdict) ∙ ap verdictOf (c .before .before .before .before .before .before .before .before .before .enum-told .given .1);
       tables-pass =
-          sym (c .before .before .before .before .before .before .before .solve-questions .ensures ∙ tests-are _ _ _ _ _ _ _ _ _ _ _ _ (c .before .before .before .before .before .before .before .before .layout-of .ensures))
+          sym (c .before .before .before .before .before .before .before .solve-questions .ensures ∙ tests-are _ _ _ (c .before .before .before .before .before .before .before .before .layout-of .ensures .states-are) (c .before .before .before .before .before .before .before .before .layout-of .ensures .rows-are))
           ∙ ap verdictOf (c .before .before .before .before .before .enum-told2 .given .1);
       ready = c .before .before .before .before .before .before .before .before .before .before .before .questions .ensures .ready (ap verdictOf (c .before .before .before .before .before .before .before .before .before .enum-told .given .1));
     }

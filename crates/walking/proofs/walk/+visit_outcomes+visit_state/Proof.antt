@@ -1,17 +1,16 @@
--- `visit_state` and `visit_outcomes` make the model's visits. The loop's invariant: what is left of the outcomes completes the
--- whole. The measure is twice the number of unmarked states, and one more for the outcomes.
+-- `visit_state` and `visit_outcomes` make the model's visits. The loop's invariant: what is left of the outcomes
+-- completes the whole. The measure is twice the number of unmarked states, and one more for the outcomes.
 -- Made by `places make` from answers/walk/+visit_outcomes+visit_state.ans: edit that file, and not this one.
 use mathlib.Core.Path.{_≡_, sym, _∙_}
 use Prim.Native.Nat.{ℕ, _+_, _-_, _*_, _<_}
 use Rattle.model.specs.Sections.{problemOf}
-use Rattle.model.specs.Value.{entry}
+use Rattle.model.specs.Value.{byState}
 use Rattle.model.specs.Walk.{next}
 use Rattle.guarantee.specs.Graphs.{each}
-use Rattle.walking.specs.Trails.{left, leads}
-use Rattle.walking.specs.Parts.{index-there, picked-leads, picked-outcomes, outcome-there, outcome-state}
-use Rattle.walking.specs.Starts.{goal-there}
-use Rattle.walking.specs.Visits.{mark-left, mark-under, list-room, over-goal, over-listed}
-use Rattle.walking.specs.Visits.{Looping, loop-start, loop-end, loop-pass, loop-visit}
+use Rattle.walking.specs.Trails.{unmarkedStates, leads}
+use Rattle.walking.proofs.PickedParts.{index-there, picked-leads, picked-outcomes, outcome-there, outcome-state}
+use Rattle.walking.proofs.Visits.{mark-left, mark-under, list-room, over-goal, over-listed}
+use Rattle.walking.proofs.Visits.{Looping, loop-start, loop-end, loop-pass, loop-visit}
 use borrow.Author.Needs.{needs}
 use native.Mathlib.Omega.{arith}
 use Prim.Native.Nat as nat
@@ -25,15 +24,15 @@ use Rattle.walking.proofs.walk.visit_state.Kinds as visit-state-kinds
 use Rattle.walking.proofs.walk.+visit_outcomes+visit_state.Lts-visit_state as visit-state-lts
 use Rattle.reading.proofs.numbers.u16_at.Reads as u16-at-reads
 use Rattle.walking.proofs.walk.picked.Reads as picked-reads
-use Rattle.walking.proofs.walk.is_goal.Reads as is-goal-reads
+use Rattle.reading.proofs.states.is_goal.Reads as is-goal-reads
 use Rattle.walking.proofs.walk.+visit_outcomes+visit_state.{statement}
 use Rattle.walking.proofs.walk.+visit_outcomes+visit_state.Tie as tie
 
 abbrev μ-visit-outcomes : cycle.Measures 5 visit-outcomes-kinds.ps nat.ℕ
-μ-visit-outcomes κs a = 2 * left (a .0 .now) (a .1 .1 .1 .0 .now) + 1
+μ-visit-outcomes κs a = 2 * unmarkedStates (a .0 .now) (a .1 .1 .1 .0 .now) + 1
 
 abbrev μ-visit-state : cycle.Measures 5 visit-state-kinds.ps nat.ℕ
-μ-visit-state κs a = 2 * left (a .0 .now) (a .1 .1 .1 .0 .now)
+μ-visit-state κs a = 2 * unmarkedStates (a .0 .now) (a .1 .1 .1 .0 .now)
 
 abbrev visit-outcomes-at : nat.ℕ → kinds.In 5 visit-outcomes-kinds.ps
 visit-outcomes-at t = cycle.and 5 visit-outcomes-kinds.ps (cycle.is 5 visit-outcomes-kinds.ps μ-visit-outcomes t) visit-outcomes-reads.Pre
@@ -56,18 +55,18 @@ visit-outcomes-μ-loop file index picks marks₀ list₀ from to n i₀ k₀ mar
 -- the part leads where the model's graph does
 led : (t : ℕ) (c : visit-state-lts.After-picked (picked-reads.Asked, picked-reads.Learnt, visit-outcomes-below t, visit-outcomes-reads.Post, is-goal-reads.Asked, is-goal-reads.Learnt) (visit-state-at t) visit-state-reads.Post)
     → leads (c .before .before .before .before .before .args .file .now) (c .picked .result .from) (c .picked .result .to)
-    ≡ next (problemOf (c .before .before .before .before .before .args .file .now)) (entry (c .before .before .before .before .before .args .picks .now)) (c .before .before .before .before .before .args .s)
-led t c = picked-leads _ _ (c .before .before .before .before .before .pre .1 .0 .walkable) _ (c .before .before .before .before .before .pre .1 .1) (c .before .before .before .before .before .args .picks .now) _ _ (c .picked .ensures)
+    ≡ next (problemOf (c .before .before .before .before .before .args .file .now)) (byState (c .before .before .before .before .before .args .picks .now)) (c .before .before .before .before .before .args .s)
+led t c = picked-leads (c .before .before .before .before .before .pre .1 .0 .walkable) _ (c .before .before .before .before .before .pre .1 .1) (c .before .before .before .before .before .args .picks .now) (c .picked .ensures)
 
 -- there is room to list the state
 room : (t : ℕ) (c : visit-state-lts.After-visit-outcomes (picked-reads.Asked, picked-reads.Learnt, visit-outcomes-below t, visit-outcomes-reads.Post, is-goal-reads.Asked, is-goal-reads.Learnt) (visit-state-at t) visit-state-reads.Post) → c .visit-outcomes .result < problemOf (c .before .before .before .before .before .before .before .before .args .file .now) .states
-room t c = list-room _ _ _ _ _ _ _ (c .before .before .before .before .before .before .before .before .pre .1 .0) (c .before .before .before .before .before .before .before .before .pre .1 .1) (c .before .before .before .before .before .before .before .before .pre .1 .2) _ _ _ _ _ (c .visit-outcomes .ensures)
+room t c = list-room (c .before .before .before .before .before .before .before .before .pre .1 .0) _ (c .before .before .before .before .before .before .before .before .pre .1 .1) (c .before .before .before .before .before .before .before .before .pre .1 .2) _ _ (c .visit-outcomes .ensures)
 
 visit-outcomes-loop-holds : (t : nat.ℕ) → visit-outcomes-lts.Need-loop-holds (u16-at-reads.Asked, u16-at-reads.Learnt, visit-state-below t, visit-state-reads.Post) (visit-outcomes-at t) visit-outcomes-reads.Post visit-outcomes-Inv-loop visit-outcomes-μ-loop
-visit-outcomes-loop-holds t c = loop-start _ _ _ _ _ _ _ _ (c .before .before .before .pre .1 .0) (c .before .before .before .pre .1 .1)
+visit-outcomes-loop-holds t c = loop-start (c .before .before .before .pre .1 .0) (c .before .before .before .pre .1 .1)
 
 visit-outcomes-u16-at-requires : (t : nat.ℕ) → visit-outcomes-lts.Need-u16-at-requires (u16-at-reads.Asked, u16-at-reads.Learnt, visit-state-below t, visit-state-reads.Post) (visit-outcomes-at t) visit-outcomes-reads.Post visit-outcomes-Inv-loop visit-outcomes-μ-loop
-visit-outcomes-u16-at-requires t c κs = outcome-there _ _ _ (c .before .loop .inv .ahead) (c .loop-test .taken)
+visit-outcomes-u16-at-requires t c κs = outcome-there (c .before .loop .inv .ahead) (c .loop-test .taken)
 
 visit-outcomes-cast-t : (t : nat.ℕ) → visit-outcomes-lts.Need-cast-t (u16-at-reads.Asked, u16-at-reads.Learnt, visit-state-below t, visit-state-reads.Post) (visit-outcomes-at t) visit-outcomes-reads.Post visit-outcomes-Inv-loop visit-outcomes-μ-loop
 visit-outcomes-cast-t t c = search needs
@@ -80,14 +79,14 @@ visit-outcomes-element-copy-out-if1 t c =
     omega (
       arith,
       c .u16-at .ensures .0,
-      outcome-state _ _ _ (c .before .before .loop .inv .ahead) (c .before .loop-test .taken),
+      outcome-state (c .before .before .loop .inv .ahead) (c .before .loop-test .taken),
       c .before .before .loop .inv .under .walkable .ready .states-high,
     )
 
 visit-outcomes-visit-state-requires : (t : nat.ℕ) → visit-outcomes-lts.Need-visit-state-requires (u16-at-reads.Asked, u16-at-reads.Learnt, visit-state-below t, visit-state-reads.Post) (visit-outcomes-at t) visit-outcomes-reads.Post visit-outcomes-Inv-loop visit-outcomes-μ-loop
 visit-outcomes-visit-state-requires t c κs = (
   omega (arith, c .before .before .before .before .before .before .before .before .before .before .pre .0, c .before .before .before .before .before .before .loop .inv .stretch .fewer each),
-  (c .before .before .before .before .before .before .loop .inv .under, rw (c .before .before .before .before .u16-at .ensures .0) (outcome-state _ _ _ (c .before .before .before .before .before .before .loop .inv .ahead) (c .before .before .before .before .before .loop-test .taken)), c .before .before .if1 .taken),
+  (c .before .before .before .before .before .before .loop .inv .under, rw (c .before .before .before .before .u16-at .ensures .0) (outcome-state (c .before .before .before .before .before .before .loop .inv .ahead) (c .before .before .before .before .before .loop-test .taken)), c .before .before .if1 .taken),
 )
 
 visit-outcomes-loop-less : (t : nat.ℕ) → visit-outcomes-lts.Need-loop-less (u16-at-reads.Asked, u16-at-reads.Learnt, visit-state-below t, visit-state-reads.Post) (visit-outcomes-at t) visit-outcomes-reads.Post visit-outcomes-Inv-loop visit-outcomes-μ-loop
@@ -95,28 +94,27 @@ visit-outcomes-loop-less t c = omega arith
 
 visit-outcomes-loop-again : (t : nat.ℕ) → visit-outcomes-lts.Need-loop-again (u16-at-reads.Asked, u16-at-reads.Learnt, visit-state-below t, visit-state-reads.Post) (visit-outcomes-at t) visit-outcomes-reads.Post visit-outcomes-Inv-loop visit-outcomes-μ-loop
 visit-outcomes-loop-again t c =
-    loop-visit _ _ _ _ _ _ _ _ _ _ _ _ (c .before .before .before .before .before .before .before .before .before .loop .inv) (c .before .before .before .before .before .before .before .before .loop-test .taken) _ (c .before .before .before .before .before .before .before .u16-at .ensures .0) _ _ _ (c .before .before .before .before .before .if1 .taken) (c .before .before .visit-state .ensures)
+    loop-visit (c .before .before .before .before .before .before .before .before .before .loop .inv) (c .before .before .before .before .before .before .before .before .loop-test .taken) _ (c .before .before .before .before .before .before .before .u16-at .ensures .0) (c .before .before .before .before .before .if1 .taken) (c .before .before .visit-state .ensures)
     (c .before .before .visit-state .kept .1 .1 .1 .1 .0)
 
 visit-outcomes-loop-less-2 : (t : nat.ℕ) → visit-outcomes-lts.Need-loop-less-2 (u16-at-reads.Asked, u16-at-reads.Learnt, visit-state-below t, visit-state-reads.Post) (visit-outcomes-at t) visit-outcomes-reads.Post visit-outcomes-Inv-loop visit-outcomes-μ-loop
 visit-outcomes-loop-less-2 t c = omega arith
 
 visit-outcomes-loop-again-2 : (t : nat.ℕ) → visit-outcomes-lts.Need-loop-again-2 (u16-at-reads.Asked, u16-at-reads.Learnt, visit-state-below t, visit-state-reads.Post) (visit-outcomes-at t) visit-outcomes-reads.Post visit-outcomes-Inv-loop visit-outcomes-μ-loop
-visit-outcomes-loop-again-2 t c = loop-pass _ _ _ _ _ _ _ _ _ _ _ _ (c .before .before .before .before .loop .inv) (c .before .before .before .loop-test .taken) _ (c .before .before .u16-at .ensures .0) (c .if1 .left)
+visit-outcomes-loop-again-2 t c =
+    loop-pass (c .before .before .before .before .loop .inv) (c .before .before .before .loop-test .taken) _ (c .before .before .u16-at .ensures .0) (c .if1 .left)
 
 visit-outcomes-same-length : (t : nat.ℕ) → visit-outcomes-lts.Need-same-length (u16-at-reads.Asked, u16-at-reads.Learnt, visit-state-below t, visit-state-reads.Post) (visit-outcomes-at t) visit-outcomes-reads.Post visit-outcomes-Inv-loop visit-outcomes-μ-loop
 visit-outcomes-same-length t c = c .before .loop .inv .long
 
 visit-outcomes-returns : (t : nat.ℕ) → visit-outcomes-lts.Need-returns (u16-at-reads.Asked, u16-at-reads.Learnt, visit-state-below t, visit-state-reads.Post) (visit-outcomes-at t) visit-outcomes-reads.Post visit-outcomes-Inv-loop visit-outcomes-μ-loop
-visit-outcomes-returns t c = loop-end _ _ _ _ _ _ _ _ _ _ _ _ (c .before .loop .inv) (c .loop-test .left)
+visit-outcomes-returns t c = loop-end (c .before .loop .inv) (c .loop-test .left)
 
 visit-state-element-write-marks : (t : nat.ℕ) → visit-state-lts.Need-element-write-marks (picked-reads.Asked, picked-reads.Learnt, visit-outcomes-below t, visit-outcomes-reads.Post, is-goal-reads.Asked, is-goal-reads.Learnt) (visit-state-at t) visit-state-reads.Post
-visit-state-element-write-marks t c =
-    omega (arith, c .before .before .before .pre .1 .1, c .before .before .before .pre .1 .0 .walkable .ready .states-high)
+visit-state-element-write-marks t c = omega (arith, c .before .before .before .pre .1 .1, c .before .before .before .pre .1 .0 .walkable .ready .states-high)
 
 visit-state-mul-picked : (t : nat.ℕ) → visit-state-lts.Need-mul-picked (picked-reads.Asked, picked-reads.Learnt, visit-outcomes-below t, visit-outcomes-reads.Post, is-goal-reads.Asked, is-goal-reads.Learnt) (visit-state-at t) visit-state-reads.Post
-visit-state-mul-picked t c =
-    omega (arith, c .before .before .before .pre .1 .1, c .before .before .before .pre .1 .0 .walkable .ready .states-high)
+visit-state-mul-picked t c = omega (arith, c .before .before .before .pre .1 .1, c .before .before .before .pre .1 .0 .walkable .ready .states-high)
 
 visit-state-shared-slice-read-picked : (t : nat.ℕ) → visit-state-lts.Need-shared-slice-read-picked (picked-reads.Asked, picked-reads.Learnt, visit-outcomes-below t, visit-outcomes-reads.Post, is-goal-reads.Asked, is-goal-reads.Learnt) (visit-state-at t) visit-state-reads.Post
 visit-state-shared-slice-read-picked t c = omega (arith, c .before .before .before .before .pre .1 .1, c .before .before .before .before .pre .1 .0 .picks-long)
@@ -125,47 +123,55 @@ visit-state-cast-picked : (t : nat.ℕ) → visit-state-lts.Need-cast-picked (pi
 visit-state-cast-picked t c = omega (arith, c .shared-slice-known3 .given (c .before .before .before .before .args .s))
 
 visit-state-picked-requires : (t : nat.ℕ) → visit-state-lts.Need-picked-requires (picked-reads.Asked, picked-reads.Learnt, visit-outcomes-below t, visit-outcomes-reads.Post, is-goal-reads.Asked, is-goal-reads.Learnt) (visit-state-at t) visit-state-reads.Post
-visit-state-picked-requires t c κs = index-there _ _ (c .before .before .before .before .pre .1 .0 .walkable) _ (c .before .before .before .before .pre .1 .1)
+visit-state-picked-requires t c κs = index-there (c .before .before .before .before .pre .1 .0 .walkable) _ (c .before .before .before .before .pre .1 .1)
 
 visit-state-visit-outcomes-requires : (t : nat.ℕ) → visit-state-lts.Need-visit-outcomes-requires (picked-reads.Asked, picked-reads.Learnt, visit-outcomes-below t, visit-outcomes-reads.Post, is-goal-reads.Asked, is-goal-reads.Learnt) (visit-state-at t) visit-state-reads.Post
 visit-state-visit-outcomes-requires t c κs = (
-  omega (arith, c .before .before .before .before .before .before .before .pre .0, mark-left _ _ _ _ _ _ _ (c .before .before .before .before .before .before .before .pre .1 .0) (c .before .before .before .before .before .before .before .pre .1 .1) (c .before .before .before .before .before .before .before .pre .1 .2)),
+  omega (arith, c .before .before .before .before .before .before .before .pre .0, mark-left (c .before .before .before .before .before .before .before .pre .1 .0) _ (c .before .before .before .before .before .before .before .pre .1 .1) (c .before .before .before .before .before .before .before .pre .1 .2)),
   (
-    mark-under _ _ _ _ _ _ _ (c .before .before .before .before .before .before .before .pre .1 .0) (c .before .before .before .before .before .before .before .pre .1 .1) (c .before .before .before .before .before .before .before .pre .1 .2),
-    picked-outcomes _ _ (c .before .before .before .before .before .before .before .pre .1 .0 .walkable) _ (c .before .before .before .before .before .before .before .pre .1 .1) (c .before .before .before .before .before .before .before .args .picks .now) _ _ (c .before .before .picked .ensures),
+    mark-under (c .before .before .before .before .before .before .before .pre .1 .0) _ (c .before .before .before .before .before .before .before .pre .1 .1) (c .before .before .before .before .before .before .before .pre .1 .2),
+    picked-outcomes (c .before .before .before .before .before .before .before .pre .1 .0 .walkable) _ (c .before .before .before .before .before .before .before .pre .1 .1) (c .before .before .before .before .before .before .before .args .picks .now) (c .before .before .picked .ensures),
   ),
 )
 
 visit-state-is-goal-requires : (t : nat.ℕ) → visit-state-lts.Need-is-goal-requires (picked-reads.Asked, picked-reads.Learnt, visit-outcomes-below t, visit-outcomes-reads.Post, is-goal-reads.Asked, is-goal-reads.Learnt) (visit-state-at t) visit-state-reads.Post
-visit-state-is-goal-requires t c κs = goal-there _ _ (c .before .before .before .before .before .before .before .before .before .before .pre .1 .0 .walkable) _ (c .before .before .before .before .before .before .before .before .before .before .pre .1 .1)
+visit-state-is-goal-requires t c κs = (c .before .before .before .before .before .before .before .before .before .before .pre .1 .0 .walkable .ready .whole, omega (arith, c .before .before .before .before .before .before .before .before .before .before .pre .1 .1))
 
 visit-state-same-length : (t : nat.ℕ) → visit-state-lts.Need-same-length (picked-reads.Asked, picked-reads.Learnt, visit-outcomes-below t, visit-outcomes-reads.Post, is-goal-reads.Asked, is-goal-reads.Learnt) (visit-state-at t) visit-state-reads.Post
 visit-state-same-length t c = c .before .before .before .before .visit-outcomes .kept .1 .1 .1 .1 .0
 
 visit-state-returns : (t : nat.ℕ) → visit-state-lts.Need-returns (picked-reads.Asked, picked-reads.Learnt, visit-outcomes-below t, visit-outcomes-reads.Post, is-goal-reads.Asked, is-goal-reads.Learnt) (visit-state-at t) visit-state-reads.Post
 visit-state-returns t c =
-    over-goal _ _ _ _ _ _ _ (c .before .before .before .before .before .before .before .before .before .before .before .before .pre .1 .0) (c .before .before .before .before .before .before .before .before .before .before .before .before .pre .1 .1) (c .before .before .before .before .before .before .before .before .before .before .before .before .pre .1 .2) _ _ _ _ _ (c .before .before .before .before .visit-outcomes .ensures) (led t (c .before .before .before .before .before .before .before))
+    over-goal (c .before .before .before .before .before .before .before .before .before .before .before .before .pre .1 .0) _ (c .before .before .before .before .before .before .before .before .before .before .before .before .pre .1 .1) (c .before .before .before .before .before .before .before .before .before .before .before .before .pre .1 .2) _ _ (c .before .before .before .before .visit-outcomes .ensures) (led t (c .before .before .before .before .before .before .before))
     (sym (c .before .is-goal .ensures) ∙ (c .if1 .taken))
 
 visit-state-cast-list : (t : nat.ℕ) → visit-state-lts.Need-cast-list (picked-reads.Asked, picked-reads.Learnt, visit-outcomes-below t, visit-outcomes-reads.Post, is-goal-reads.Asked, is-goal-reads.Learnt) (visit-state-at t) visit-state-reads.Post
-visit-state-cast-list t c =
-    omega (arith, c .before .before .before .before .before .before .before .before .before .before .before .before .pre .1 .1, c .before .before .before .before .before .before .before .before .before .before .before .before .pre .1 .0 .walkable .ready .states-high)
+visit-state-cast-list t c = omega (arith, c .before .before .before .before .before .before .before .before .before .before .before .before .pre .1 .1, room t (c .before .before .before .before), c .before .before .before .before .before .before .before .before .before .before .before .before .pre .1 .0 .walkable .ready .states-high)
 
 visit-state-mul-list : (t : nat.ℕ) → visit-state-lts.Need-mul-list (picked-reads.Asked, picked-reads.Learnt, visit-outcomes-below t, visit-outcomes-reads.Post, is-goal-reads.Asked, is-goal-reads.Learnt) (visit-state-at t) visit-state-reads.Post
-visit-state-mul-list t c = omega (arith, room t (c .before .before .before .before), c .before .before .before .before .before .before .before .before .before .before .before .before .pre .1 .0 .walkable .ready .states-high)
+visit-state-mul-list t c =
+    omega (arith, room t (c .before .before .before .before), c .before .before .before .before .visit-outcomes .ensures .grows, c .before .before .before .before .before .before .before .before .before .before .before .before .pre .1 .0 .walkable .ready .states-high)
 
 visit-state-slice-write-list : (t : nat.ℕ) → visit-state-lts.Need-slice-write-list (picked-reads.Asked, picked-reads.Learnt, visit-outcomes-below t, visit-outcomes-reads.Post, is-goal-reads.Asked, is-goal-reads.Learnt) (visit-state-at t) visit-state-reads.Post
-visit-state-slice-write-list t c = omega (arith, room t (c .before .before .before .before), c .before .before .before .before .before .before .before .before .before .before .before .before .pre .1 .0 .list-long, c .before .before .before .before .visit-outcomes .kept .1 .1 .1 .1 .0)
+visit-state-slice-write-list t c =
+    omega (
+      arith,
+      room t (c .before .before .before .before),
+      c .before .before .before .before .visit-outcomes .ensures .grows,
+      c .before .before .before .before .before .before .before .before .before .before .before .before .pre .1 .0 .list-long,
+      c .before .before .before .before .visit-outcomes .kept .1 .1 .1 .1 .0,
+    )
 
 visit-state-add-result : (t : nat.ℕ) → visit-state-lts.Need-add-result (picked-reads.Asked, picked-reads.Learnt, visit-outcomes-below t, visit-outcomes-reads.Post, is-goal-reads.Asked, is-goal-reads.Learnt) (visit-state-at t) visit-state-reads.Post
-visit-state-add-result t c = omega (arith, room t (c .before .before .before .before), c .before .before .before .before .before .before .before .before .before .before .before .before .pre .1 .0 .walkable .ready .states-high)
+visit-state-add-result t c =
+    omega (arith, room t (c .before .before .before .before), c .before .before .before .before .visit-outcomes .ensures .grows, c .before .before .before .before .before .before .before .before .before .before .before .before .pre .1 .0 .walkable .ready .states-high)
 
 visit-state-same-length-2 : (t : nat.ℕ) → visit-state-lts.Need-same-length-2 (picked-reads.Asked, picked-reads.Learnt, visit-outcomes-below t, visit-outcomes-reads.Post, is-goal-reads.Asked, is-goal-reads.Learnt) (visit-state-at t) visit-state-reads.Post
 visit-state-same-length-2 t c = search needs
 
 visit-state-returns-2 : (t : nat.ℕ) → visit-state-lts.Need-returns-2 (picked-reads.Asked, picked-reads.Learnt, visit-outcomes-below t, visit-outcomes-reads.Post, is-goal-reads.Asked, is-goal-reads.Learnt) (visit-state-at t) visit-state-reads.Post
 visit-state-returns-2 t c =
-    over-listed _ _ _ _ _ _ _ (c .before .before .before .before .before .before .before .before .before .before .before .before .pre .1 .0) (c .before .before .before .before .before .before .before .before .before .before .before .before .pre .1 .1) (c .before .before .before .before .before .before .before .before .before .before .before .before .pre .1 .2) _ _ _ _ _ (c .before .before .before .before .visit-outcomes .ensures) (led t (c .before .before .before .before .before .before .before))
+    over-listed (c .before .before .before .before .before .before .before .before .before .before .before .before .pre .1 .0) _ (c .before .before .before .before .before .before .before .before .before .before .before .before .pre .1 .1) (c .before .before .before .before .before .before .before .before .before .before .before .before .pre .1 .2) _ _ (c .before .before .before .before .visit-outcomes .ensures) (led t (c .before .before .before .before .before .before .before))
     (sym (c .before .is-goal .ensures) ∙ (c .if1 .left)) (c .before .before .before .before .visit-outcomes .kept .1 .1 .1 .1 .0)
 
 pub +visit-outcomes+visit-state-spec : {M : Type 1} → statement M

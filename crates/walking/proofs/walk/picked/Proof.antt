@@ -5,59 +5,60 @@ use native.Mathlib.Omega.{arith}
 use Rattle.walking.proofs.walk.picked.Statement.{statement}
 use Rattle.walking.proofs.walk.picked.Tie as tie
 
-entry-requires : tie.Need-entry-requires
-entry-requires c κs = search needs
+index-at-requires : tie.Need-index-at-requires
+index-at-requires c κs = search needs
 
 returns : tie.Need-returns
 returns c = search needs
 
-add-entry : tie.Need-add-entry
-add-entry c = search needs
+add-index-at : tie.Need-add-index-at
+add-index-at c = search needs
 
-entry-requires-2 : tie.Need-entry-requires-2
-entry-requires-2 c κs = search needs
+index-at-requires-2 : tie.Need-index-at-requires-2
+index-at-requires-2 c κs = search needs
 
 returns-2 : tie.Need-returns-2
 returns-2 c = search needs
 
-mul-entry : tie.Need-mul-entry
-mul-entry c = search needs
+mul-index-at : tie.Need-mul-index-at
+mul-index-at c = search needs
 
-add-entry-2 : tie.Need-add-entry-2
-add-entry-2 c = search needs
+add-index-at-2 : tie.Need-add-index-at-2
+add-index-at-2 c = search needs
 
-entry-requires-3 : tie.Need-entry-requires-3
-entry-requires-3 c κs = search needs
+index-at-requires-3 : tie.Need-index-at-requires-3
+index-at-requires-3 c κs = search needs
 
-mul-entry-2 : tie.Need-mul-entry-2
-mul-entry-2 c = search needs
+mul-index-at-2 : tie.Need-mul-index-at-2
+mul-index-at-2 c = search needs
 
-add-entry-3 : tie.Need-add-entry-3
-add-entry-3 c = search needs
+add-index-at-3 : tie.Need-add-index-at-3
+add-index-at-3 c = search needs
 
-add-entry-4 : tie.Need-add-entry-4
-add-entry-4 c = search needs
+add-index-at-4 : tie.Need-add-index-at-4
+add-index-at-4 c = search needs
 
-entry-requires-4 : tie.Need-entry-requires-4
-entry-requires-4 c κs = search needs
+index-at-requires-4 : tie.Need-index-at-requires-4
+index-at-requires-4 c κs = search needs
 
 returns-3 : tie.Need-returns-3
-returns-3 c = record { own = λ l h. (c .before .entry3 .ensures, c .entry4 .ensures); stray = λ h. absurd (h (omega arith) (omega arith)) }
+returns-3 c =
+    record { own = λ l h. (c .before .index-at3 .ensures, c .index-at4 .ensures); stray = λ h. absurd (h (omega arith) (omega arith)) }
 
 pub picked-spec : {M : Type 1} → statement M
 picked-spec =
     tie.close
     (tie.spec
-    entry-requires
+    index-at-requires
     returns
-    add-entry
-    entry-requires-2
+    add-index-at
+    index-at-requires-2
     returns-2
-    mul-entry
-    add-entry-2
-    entry-requires-3
-    mul-entry-2
-    add-entry-3
-    add-entry-4
-    entry-requires-4
+    mul-index-at
+    add-index-at-2
+    index-at-requires-3
+    mul-index-at-2
+    add-index-at-3
+    add-index-at-4
+    index-at-requires-4
     returns-3)

@@ -1,0 +1,24 @@
+-- What the questions about the tables ask for.
+use mathlib.Core.Path.{_≡_}
+use Prim.Native.Nat.{ℕ, _≤_}
+use mathlib.Core.List.{List}
+use lib.ListN.{length}
+use Rattle.model.specs.Problem.{giveUpCost}
+use Rattle.model.specs.Sections.{problemOf}
+use Rattle.walking.specs.Walkable.{Walkable}
+use Rattle.walking.specs.Costs.{Costed}
+
+-- a file that questions 1 to 11 let through, with its index and its number of states, and two tables that are long enough
+pub record TablesAsked (f index values picks : List ℕ) (n : ℕ) : Type 0 where
+  pub walkable : Walkable f index
+  pub states-are : n ≡ problemOf f .states
+  pub values-long : n ≤ length values
+  pub picks-long : n ≤ length picks
+
+-- what question 19 asks: the picks at reached states say what they cost
+pub record CloseAsked (f index values picks marks : List ℕ) (limit tolerance : ℕ) : Type 0 where
+  pub walkable : Walkable f index
+  pub costed : Costed f picks marks
+  pub values-long : problemOf f .states ≤ length values
+  pub limit-is : limit ≡ giveUpCost (problemOf f)
+  pub tolerance-is : tolerance ≡ problemOf f .tolerance

@@ -1,0 +1,4 @@
+-- Laws that the proofs of this crate cite.
+pub mod Scanning
+pub mod BackingUp
+pub mod Undoing

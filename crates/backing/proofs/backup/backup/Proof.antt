@@ -1,0 +1,94 @@
+-- `backup` is the model's: its scan, the pick stored, and the value raised by the model's test. The scan never meets a value that
+-- does not fit, so that nothing is undone.
+-- Made by `places make` from answers/backup/backup.ans: edit that file, and not this one.
+use mathlib.Core.Path.{refl, sym, _∙_}
+use mathlib.Core.Bool.{true≢false}
+use Rattle.backing.proofs.BackingUp.{backable-scannable, given-room, given-scan, backup-done}
+use borrow.Author.Needs.{needs}
+use native.Mathlib.Omega.{arith}
+use Rattle.backing.proofs.backup.backup.Statement.{statement}
+use Rattle.backing.proofs.backup.backup.Tie as tie
+
+mul-prev : tie.Need-mul-prev
+mul-prev c = search needs
+
+slice-read-prev : tie.Need-slice-read-prev
+slice-read-prev c = omega (arith, c .before .before .before .before .before .pre .0 .sound .picks-length, c .before .before .before .before .before .pre .1)
+
+cast-before : tie.Need-cast-before
+cast-before c = omega (arith, c .before .before .slice-known2 .given (c .before .before .before .before .before .args .s))
+
+scan-requires : tie.Need-scan-requires
+scan-requires c κs = (
+  backable-scannable (c .before .before .before .before .before .before .before .before .pre .0),
+  c .before .before .before .before .before .before .before .before .pre .1,
+  given-room (c .before .before .before .before .before .before .before .before .pre .0) _ _ (c .before .before .before .before .before .before .before .before .pre .2) (c .before .before .before .before .before .before .before .before .pre .3),
+  refl,
+)
+
+undo-requires : tie.Need-undo-requires
+undo-requires c κs = absurd (true≢false (sym (c .before .before .if1 .taken) ∙ (c .before .before .before .before .before .scan .ensures .1)))
+
+cast-t30 : tie.Need-cast-t30
+cast-t30 c = absurd (true≢false (sym (c .before .before .before .before .before .before .if1 .taken) ∙ (c .before .before .before .before .before .before .before .before .before .scan .ensures .1)))
+
+same-length : tie.Need-same-length
+same-length c = search needs
+
+same-length-2 : tie.Need-same-length-2
+same-length-2 c = c .before .before .before .undo .kept .0 ∙ (c .before .before .before .before .before .before .before .before .before .scan .kept .1 .1 .1 .0)
+
+returns : tie.Need-returns
+returns c = absurd (true≢false (sym (c .before .before .before .before .before .before .if1 .taken) ∙ (c .before .before .before .before .before .before .before .before .before .scan .ensures .1)))
+
+mul-picks : tie.Need-mul-picks
+mul-picks c = search needs
+
+slice-write-picks : tie.Need-slice-write-picks
+slice-write-picks c = omega (arith, c .before .before .before .before .before .before .before .before .before .before .before .before .pre .0 .sound .picks-length, c .before .before .before .before .before .before .before .before .before .before .before .before .pre .1)
+
+raise-requires : tie.Need-raise-requires
+raise-requires c κs = omega (arith, c .before .before .before .before .before .before .before .before .before .before .before .before .before .pre .0 .sound .values-length, c .before .before .before .before .before .before .before .before .before .before .before .before .before .pre .1)
+
+moves-requires : tie.Need-moves-requires
+moves-requires c κs = search needs
+
+same-length-3 : tie.Need-same-length-3
+same-length-3 c = c .before .before .before .raise .kept .0
+
+same-length-4 : tie.Need-same-length-4
+same-length-4 c = search needs
+
+same-length-5 : tie.Need-same-length-5
+same-length-5 c = c .before .before .before .before .before .before .before .before .scan .kept .1 .1 .1 .0
+
+returns-2 : tie.Need-returns-2
+returns-2 c =
+    let h = c .before .before .before .before .before .before .before .before .before .before .before .before .before .before .before .before .before .pre .0 in (
+      (λ l.
+          backup-done h _ _ _ _ l
+          (given-scan h _ _ (c .before .before .before .before .before .before .before .before .before .before .before .before .before .before .before .before .before .pre .2) (c .before .before .before .before .before .before .before .before .scan .ensures .0)) (c .before .before .before .raise .ensures .0) (c .before .before .before .raise .ensures .1) (c .moves .ensures)),
+      refl,
+    )
+
+pub backup-spec : {M : Type 1} → statement M
+backup-spec =
+    tie.close
+    (tie.spec
+    mul-prev
+    slice-read-prev
+    cast-before
+    scan-requires
+    undo-requires
+    cast-t30
+    same-length
+    same-length-2
+    returns
+    mul-picks
+    slice-write-picks
+    raise-requires
+    moves-requires
+    same-length-3
+    same-length-4
+    same-length-5
+    returns-2)

@@ -1,0 +1,217 @@
+// The rows of one backup: the one picked before first, then the others in row order.
+// A row that remembers at least best would not be picked, so that it is not evaluated.
+use crate::LOG;
+use model::VALUE_BOUND;
+use reading::index::INDEX;
+use reading::value::row_value;
+ghost use mathlib.Core.Path.{_≡_};
+ghost use mathlib.Core.Bool.{true, false, _&&_};
+ghost use mathlib.Core.List.{List};
+ghost use Prim.Native.Nat.{ℕ, _+_, _-_, _≤_, _<_};
+ghost use lib.Dec.{leb, ltb};
+ghost use lib.ListN.{length, getD, set};
+ghost use Rattle.model.specs.Limits.{maxRows};
+ghost use Rattle.model.specs.Sections.{problemOf};
+ghost use Rattle.model.specs.Rounds.{evaluate};
+ghost use Rattle.backing.specs.Backable.{countBound, found, Scannable};
+ghost use Rattle.backing.specs.Backable.{considerUnder, considerIfUnder, scanFromUnder, scanUnder};
+ghost use Rattle.backing.specs.Log.{noted, undone};
+
+// A scan so far: the least value, the pick, and the evaluations counted. Where the value of a row does not fit in 32 bits `over`
+// is set, the pick is that row, and best is 0, so that every later row is skipped.
+pub struct Found {
+    pub best: u32,
+    pub pick: u16,
+    pub count: u64,
+    pub over: bool,
+}
+
+// Notes that row r remembered `old` before evaluation number `count`.
+fn note(log: &mut [u32; LOG], count: u64, r: usize, old: u32)
+    requires { ⌜ r < maxRows ⌝ }
+    ensures { λ _. ⌜ now (log .exit) ≡ noted (now (log .entry)) count r old ⌝ }
+{
+    let k = 2 * ((count % 256) as usize);
+    log[k] = r as u32;
+    log[k + 1] = old;
+}
+
+// Question 14: the value of row r does not fit.
+fn too_large(r: usize, a: Found) -> Found
+    requires { ⌜ r < maxRows ⌝ }
+    ensures { λ b. ⌜ (b .best ≡ 0) × (b .pick ≡ r) × (b .count ≡ a .count) × (b .over ≡ true) ⌝ }
+{
+    Found {
+        best: 0,
+        pick: r as u16,
+        count: a.count,
+        over: true,
+    }
+}
+
+// Row r has value q: it is counted, and picked if q is below best.
+fn evaluated(q: u32, r: usize, a: Found) -> Found
+    requires { ⌜ (r < maxRows) × (a .count < countBound) ⌝ }
+    ensures { λ b.
+        ⌜ ((l : List ℕ) → found (b .best) (b .pick) (b .count) (set l r q) ≡ evaluate q r (found (a .best) (a .pick) (a .count) l))
+        × (b .over ≡ false) ⌝ }
+{
+    if q < a.best {
+        Found {
+            best: q,
+            pick: r as u16,
+            count: a.count + 1,
+            over: false,
+        }
+    } else {
+        Found {
+            best: a.best,
+            pick: a.pick,
+            count: a.count + 1,
+            over: false,
+        }
+    }
+}
+
+// Row r is skipped where it remembers at least best; otherwise it is evaluated, and its value remembered.
+fn consider(
+    file: &[u8],
+    index: &[u32; INDEX],
+    values: &[u32],
+    remembered: &mut [u32],
+    log: &mut [u32; LOG],
+    r: usize,
+    a: Found,
+) -> Found
+    requires { ⌜ Scannable (now file) (now index) (now values) (now remembered)
+        × (r < problemOf (now file) .rows) × (a .count < countBound) × (a .over ≡ false) ⌝ }
+    ensures { λ b.
+        ⌜ (found (b .best) (b .pick) (b .count) (now (remembered .exit))
+        ≡ considerUnder
+        (now (file .entry)) (now (values .entry)) r
+        (found (a .best) (a .pick) (a .count) (now (remembered .entry))))
+        × (b .over ≡ false) ⌝ }
+{
+    let old = remembered[r];
+    if a.best <= old {
+        return a;
+    }
+    let q = row_value(file, index, values, r);
+    if VALUE_BOUND <= q {
+        return too_large(r, a);
+    }
+    let value = q as u32;
+    note(log, a.count, r, old);
+    remembered[r] = value;
+    evaluated(value, r, a)
+}
+
+// The row picked before, where it is one of the rows from `first` to `end`.
+fn picked(
+    file: &[u8],
+    index: &[u32; INDEX],
+    values: &[u32],
+    remembered: &mut [u32],
+    log: &mut [u32; LOG],
+    first: usize,
+    end: usize,
+    prev: usize,
+    a: Found,
+) -> Found
+    requires { ⌜ Scannable (now file) (now index) (now values) (now remembered)
+        × (end ≤ problemOf (now file) .rows) × (a .count < countBound) × (a .over ≡ false) ⌝ }
+    ensures { λ b.
+        ⌜ (found (b .best) (b .pick) (b .count) (now (remembered .exit))
+        ≡ considerIfUnder
+        (leb first prev && ltb prev end) (now (file .entry)) (now (values .entry)) prev
+        (found (a .best) (a .pick) (a .count) (now (remembered .entry))))
+        × (b .over ≡ false) ⌝ }
+{
+    if prev < first {
+        return a;
+    }
+    if end <= prev {
+        return a;
+    }
+    consider(file, index, values, remembered, log, prev, a)
+}
+
+// The rows from `first` to `end` in order, but for the one picked before.
+fn others(
+    file: &[u8],
+    index: &[u32; INDEX],
+    values: &[u32],
+    remembered: &mut [u32],
+    log: &mut [u32; LOG],
+    first: usize,
+    end: usize,
+    prev: usize,
+    a: Found,
+) -> Found
+    requires { ⌜ Scannable (now file) (now index) (now values) (now remembered)
+        × (first ≤ end) × (end ≤ problemOf (now file) .rows)
+        × (scanFromUnder
+        (now file) (now values) prev first (end - first)
+        (found (a .best) (a .pick) (a .count) (now remembered)) .count < countBound)
+        × (a .over ≡ false) ⌝ }
+    ensures { λ b.
+        ⌜ (found (b .best) (b .pick) (b .count) (now (remembered .exit))
+        ≡ scanFromUnder
+        (now (file .entry)) (now (values .entry)) prev first (end - first)
+        (found (a .best) (a .pick) (a .count) (now (remembered .entry))))
+        × (b .over ≡ false) ⌝ }
+{
+    let mut b = a;
+    let mut next = first;
+    while next < end {
+        let r = next;
+        next += 1;
+        if r != prev {
+            b = consider(file, index, values, remembered, log, r, b);
+        }
+    }
+    b
+}
+
+// The scan of state s, whose pick before is `prev`.
+pub fn scan(
+    file: &[u8],
+    index: &[u32; INDEX],
+    values: &[u32],
+    remembered: &mut [u32],
+    log: &mut [u32; LOG],
+    s: usize,
+    prev: usize,
+    a: Found,
+) -> Found
+    requires { ⌜ Scannable (now file) (now index) (now values) (now remembered)
+        × (s < problemOf (now file) .states)
+        × (scanUnder
+        (now file) (now values) s prev
+        (found (a .best) (a .pick) (a .count) (now remembered)) .count < countBound)
+        × (a .over ≡ false) ⌝ }
+    ensures { λ b.
+        ⌜ (found (b .best) (b .pick) (b .count) (now (remembered .exit))
+        ≡ scanUnder
+        (now (file .entry)) (now (values .entry)) s prev
+        (found (a .best) (a .pick) (a .count) (now (remembered .entry))))
+        × (b .over ≡ false) ⌝ }
+{
+    let first = index[s] as usize;
+    let end = index[s + 1] as usize;
+    let b = picked(file, index, values, remembered, log, first, end, prev, a);
+    others(file, index, values, remembered, log, first, end, prev, b)
+}
+
+// Gives the rows evaluated from evaluation number `from` to `to` back what they remembered before, the last one first.
+pub fn undo(remembered: &mut [u32], log: &[u32; LOG], from: u64, to: u64)
+    requires { ⌜ ((k : ℕ) → getD (now log) k 0 < length (now remembered)) ⌝ }
+    ensures { λ _. ⌜ now (remembered .exit) ≡ undone (now (log .entry)) from (to - from) (now (remembered .entry)) ⌝ }
+{
+    let mut count = to;
+    while from < count {
+        count -= 1;
+        let k = 2 * ((count % 256) as usize);
+        remembered[log[k] as usize] = log[k + 1];
+    }
+}

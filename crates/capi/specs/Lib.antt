@@ -1,2 +1,0 @@
--- What the C interface hands back.
-pub mod Interface

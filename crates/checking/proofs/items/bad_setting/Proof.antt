@@ -1,0 +1,60 @@
+-- `bad_setting` answers question 4: each return rewrites the chain with the tests that led there.
+-- Made by `places make` from answers/items/bad_setting.ans: edit that file, and not this one.
+use borrow.Author.Tests.{lt-ltb, le-ltb, not-true, not-false}
+use Prim.Native.Nat.{_≤_, _<_}
+use mathlib.Core.Bool.{true, false}
+use mathlib.Core.Path.{_≡_, _∙_, sym}
+use Rattle.model.specs.Limits.{maxTolerance, maxPenalty}
+use Rattle.model.specs.Questions.{between, settingQuestions}
+use borrow.Author.Needs.{needs}
+use native.Mathlib.Omega.{arith}
+use Rattle.checking.proofs.items.bad_setting.Statement.{statement}
+use Rattle.checking.proofs.items.bad_setting.Tie as tie
+
+cast-if1 : tie.Need-cast-if1
+cast-if1 c = search needs
+
+returns : tie.Need-returns
+unfolding settingQuestions
+returns c = λ p a b d e. let h : p .states ≤ p .start = omega arith in simp (le-ltb _ _ h)
+
+out-of-range-requires : tie.Need-out-of-range-requires
+out-of-range-requires c κs = search needs
+
+returns-2 : tie.Need-returns-2
+unfolding settingQuestions
+returns-2 c = λ p a b d e.
+    let s : p .start < p .states = omega arith in
+    let t : between 1 maxTolerance (p .tolerance) ≡ false = rw d (not-true _ (sym (c .before .out-of-range .ensures) ∙ (c .if2 .taken))) in
+    rw (lt-ltb _ _ s, t)
+
+out-of-range-requires-2 : tie.Need-out-of-range-requires-2
+out-of-range-requires-2 c κs = search needs
+
+returns-3 : tie.Need-returns-3
+unfolding settingQuestions
+returns-3 c = λ p a b d e.
+    let s : p .start < p .states = omega arith in
+    let t : between 1 maxTolerance (p .tolerance) ≡ true = rw d (not-false _ (sym (c .before .before .before .out-of-range .ensures) ∙ (c .before .before .if2 .left))) in
+    let k : between 1 maxPenalty (p .penalty) ≡ false = rw e (not-true _ (sym (c .before .out-of-range2 .ensures) ∙ (c .if3 .taken))) in
+    rw (lt-ltb _ _ s, t, k)
+
+returns-4 : tie.Need-returns-4
+unfolding settingQuestions
+returns-4 c = λ p a b d e.
+    let s : p .start < p .states = omega arith in
+    let t : between 1 maxTolerance (p .tolerance) ≡ true = rw d (not-false _ (sym (c .before .before .before .out-of-range .ensures) ∙ (c .before .before .if2 .left))) in
+    let k : between 1 maxPenalty (p .penalty) ≡ true = rw e (not-false _ (sym (c .before .out-of-range2 .ensures) ∙ (c .if3 .left))) in
+    rw (lt-ltb _ _ s, t, k)
+
+pub bad-setting-spec : {M : Type 1} → statement M
+bad-setting-spec =
+    tie.close
+    (tie.spec
+    cast-if1
+    returns
+    out-of-range-requires
+    returns-2
+    out-of-range-requires-2
+    returns-3
+    returns-4)

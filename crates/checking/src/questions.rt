@@ -1,0 +1,144 @@
+// Questions 1 to 11 over any bytes, and the lookup.
+use crate::items::bad_outcomes;
+use crate::items::bad_row;
+use crate::items::bad_setting;
+use crate::items::bad_state;
+use crate::sections::sections;
+use model::FileAnswer;
+use model::MAX_STATES;
+use reading::index::INDEX;
+use reading::index::index_rows;
+use reading::index::index_states;
+use reading::layout::Layout;
+use reading::layout::layout_of;
+use reading::settings::give_up_cost;
+use reading::settings::settings_of;
+use reading::states::estimates;
+use reading::states::is_goal;
+use reading::value::first_undercut;
+ghost use mathlib.Core.Path.{_≡_};
+ghost use Prim.Native.Nat.{_<_};
+ghost use lib.ListN.{length};
+ghost use Rattle.model.specs.Answers.{verdictOf, fileCarries, verdictCarries};
+ghost use Rattle.model.specs.Limits.{valueBound};
+ghost use Rattle.model.specs.Lookup.{rowsOf};
+ghost use Rattle.model.specs.Questions.{fails, fileQuestions};
+ghost use Rattle.checking.specs.Stretches.{RowsAsked, RowsAnswered, ValuesAsked, ValuesAnswered};
+ghost use Rattle.checking.specs.Stretches.{ItemsAnswered, FileAnswered};
+ghost use Rattle.reading.specs.Tests.{indexSize};
+
+// A refusal with its place.
+fn refused(question: u8, place: usize) -> FileAnswer
+    requires { ⌜ place < valueBound ⌝ }
+    ensures { λ r. ⌜ verdictOf r ≡ fails question place ⌝ }
+{
+    FileAnswer::Refused {
+        question,
+        place: place as u32,
+    }
+}
+
+// Questions 7 to 9, and the index.
+fn row_questions(file: &[u8], l: Layout, index: &mut [u32; INDEX]) -> FileAnswer
+    requires { ⌜ RowsAsked (now file) l × (length (now index) ≡ indexSize) ⌝ }
+    ensures { λ r. ⌜ RowsAnswered (now (file .entry)) (now (index .entry)) (now (index .exit)) (verdictOf r) ⌝ }
+{
+    let states = l.states;
+    let rows = l.rows;
+    let at2 = l.at2;
+    if index_states(file, l.at1, states, index) != (rows as u32) {
+        return refused(7, 0);
+    }
+    let r = bad_row(file, at2, rows);
+    if r < rows {
+        return refused(8, r);
+    }
+    if index_rows(file, at2, rows, l.at3, index) != (l.outcomes as u32) {
+        return refused(9, 0);
+    }
+    FileAnswer::Passed
+}
+
+// Questions 10 and 11.
+fn value_questions(file: &[u8], l: Layout, index: &[u32; INDEX]) -> FileAnswer
+    requires { ⌜ ValuesAsked (now file) (now index) l ⌝ }
+    ensures { λ r. ⌜ ValuesAnswered (now (file .entry)) (now (index .entry)) (verdictOf r) ⌝ }
+{
+    let rows = l.rows;
+    let states = l.states;
+    let r = bad_outcomes(file, rows, states, index);
+    if r < rows {
+        return refused(10, r);
+    }
+    let mut values = [0u32; MAX_STATES];
+    estimates(file, states, &mut values);
+    let u = first_undercut(file, index, &values, states);
+    if u.state < states {
+        return refused(11, u.row);
+    }
+    FileAnswer::Passed
+}
+
+// Questions 4 to 11 of a file whose sections are whole.
+fn item_questions(file: &[u8], l: Layout, index: &mut [u32; INDEX]) -> FileAnswer
+    requires { ⌜ RowsAsked (now file) l × (length (now index) ≡ indexSize) ⌝ }
+    ensures { λ r. ⌜ ItemsAnswered (now (file .entry)) (now (index .entry)) (now (index .exit)) (verdictOf r) ⌝ }
+{
+    let set = settings_of(file);
+    let states = l.states;
+    let bad = bad_setting(set, states);
+    if bad < 3 {
+        return refused(4, bad as usize);
+    }
+    let s = bad_state(file, l.at1, states, give_up_cost(file));
+    if s < states {
+        return refused(5, s);
+    }
+    let start = set.start as usize;
+    if is_goal(file, start) {
+        return refused(6, start);
+    }
+    let counted = row_questions(file, l, index);
+    let FileAnswer::Passed = counted else {
+        return counted;
+    };
+    value_questions(file, l, index)
+}
+
+// Questions 1 to 11 about the file. The index is filled in as far as they come, and whole where they all say yes.
+pub fn questions(file: &[u8], index: &mut [u32; INDEX]) -> FileAnswer
+    requires { ⌜ length (now index) ≡ indexSize ⌝ }
+    ensures { λ r. ⌜ FileAnswered (now (file .entry)) (now (index .entry)) (now (index .exit)) (verdictOf r) ⌝ }
+{
+    let whole = sections(file);
+    let FileAnswer::Passed = whole else {
+        return whole;
+    };
+    item_questions(file, layout_of(file), index)
+}
+
+// The answer to questions 1 to 11 about any bytes.
+pub fn check(file: &[u8]) -> FileAnswer
+    ensures { λ r. ⌜ fileCarries r ≡ verdictCarries (fileQuestions (now (file .entry))) ⌝ }
+{
+    let mut index = [0u32; INDEX];
+    questions(file, &mut index)
+}
+
+// The rows of a state, 4 bytes each, as a part of the file; empty where the file is refused or the number is no state.
+pub fn rows_of(file: &[u8], state: usize) -> &[u8]
+    ensures { λ r. ⌜ now r ≡ rowsOf (now (file .entry)) state ⌝ }
+{
+    let mut index = [0u32; INDEX];
+    let answer = questions(file, &mut index);
+    let FileAnswer::Passed = answer else {
+        return &file[0..0];
+    };
+    let l = layout_of(file);
+    if l.states <= state {
+        return &file[0..0];
+    }
+    let from = l.at2 + 4 * (index[state] as usize);
+    let to = l.at2 + 4 * (index[state + 1] as usize);
+    &file[from..to]
+}

@@ -1,0 +1,90 @@
+-- What answers carry: the code's answer carries what the answer of the same name in the definitions does, and nothing is
+-- lost, since an answer can be told from what it carries.
+use mathlib.Core.Path.{_≡_, refl, _∙_, ap}
+use Rattle.model.specs.Carried.{Said, Carried}
+use Rattle.model.specs.Questions.{Verdict, passes, fails}
+use Rattle.model.specs.Solution.{Answer, solved, spent, refused}
+use Rattle.model.specs.Audit.{Audited, accepted, refused as audit-refused}
+use Rattle.model.specs.Answers.{fileCarries, solveCarries, auditCarries, verdictCarries, answerCarries, auditedCarries}
+use Rattle.model.specs.Answers.{verdictOf, answerOf, auditedOf}
+use Rattle.model.specs.declared.FileAnswer.{FileAnswer}
+use Rattle.model.specs.declared.FileAnswer.the-variants.{Passed, Refused}
+use Rattle.model.specs.declared.SolveAnswer.{SolveAnswer}
+use Rattle.model.specs.declared.SolveAnswer.the-variants.{Solved, Spent, Refused as Turned-down}
+use Rattle.model.specs.declared.AuditAnswer.{AuditAnswer}
+use Rattle.model.specs.declared.AuditAnswer.the-variants.{Accepted, Refused as Audit-refused}
+
+-- the code's answer and its reading carry the same
+
+pub verdict-carries : (r : FileAnswer) → verdictCarries (verdictOf r) ≡ fileCarries r
+verdict-carries Passed = refl
+verdict-carries (Refused q i) = refl
+
+pub answer-carries : (r : SolveAnswer) → answerCarries (answerOf r) ≡ solveCarries r
+answer-carries (Solved rounds evaluations least) = refl
+answer-carries (Spent rounds evaluations) = refl
+answer-carries (Turned-down q i) = refl
+
+pub audited-carries : (r : AuditAnswer) → auditedCarries (auditedOf r) ≡ auditCarries r
+audited-carries (Accepted least) = refl
+audited-carries (Audit-refused q i excess) = refl
+
+-- answers that carry the same are the same
+
+said-is : {a b : Carried} → a ≡ b → a .said ≡ b .said
+said-is e = ap (λ c. c .said) e
+
+pub verdict-one : (a b : Verdict) → verdictCarries a ≡ verdictCarries b → a ≡ b
+verdict-one passes passes e = refl
+verdict-one passes (fails q i) e = let s = said-is e in cc
+verdict-one (fails q i) passes e = let s = said-is e in cc
+verdict-one (fails q i) (fails r j) e = ap (λ (c : Carried). fails (c .question) (c .place)) e
+
+pub answer-one : (a b : Answer) → answerCarries a ≡ answerCarries b → a ≡ b
+answer-one (solved n m c) (solved n′ m′ c′) e = ap (λ (c : Carried). solved (c .rounds) (c .evaluations) (c .least)) e
+answer-one (solved n m c) (spent n′ m′) e = let s = said-is e in cc
+answer-one (solved n m c) (refused q i) e = let s = said-is e in cc
+answer-one (spent n m) (solved n′ m′ c) e = let s = said-is e in cc
+answer-one (spent n m) (spent n′ m′) e = ap (λ (c : Carried). spent (c .rounds) (c .evaluations)) e
+answer-one (spent n m) (refused q i) e = let s = said-is e in cc
+answer-one (refused q i) (solved n m c) e = let s = said-is e in cc
+answer-one (refused q i) (spent n m) e = let s = said-is e in cc
+answer-one (refused q i) (refused r j) e = ap (λ (c : Carried). refused (c .question) (c .place)) e
+
+pub audited-one : (a b : Audited) → auditedCarries a ≡ auditedCarries b → a ≡ b
+audited-one (accepted c) (accepted c′) e = ap (λ (c : Carried). accepted (c .least)) e
+audited-one (accepted c) (audit-refused q i z) e = let s = said-is e in cc
+audited-one (audit-refused q i z) (accepted c) e = let s = said-is e in cc
+audited-one (audit-refused q i z) (audit-refused r j z′) e = ap (λ (c : Carried). audit-refused (c .question) (c .place) (c .excess)) e
+
+-- so a promise of what is carried is a promise of the answer
+
+pub verdict-known : (r : FileAnswer) (a : Verdict) → fileCarries r ≡ verdictCarries a → verdictOf r ≡ a
+verdict-known r a e = verdict-one (verdictOf r) a (verdict-carries r ∙ e)
+
+pub answer-known : (r : SolveAnswer) (a : Answer) → solveCarries r ≡ answerCarries a → answerOf r ≡ a
+answer-known r a e = answer-one (answerOf r) a (answer-carries r ∙ e)
+
+pub audited-known : (r : AuditAnswer) (a : Audited) → auditCarries r ≡ auditedCarries a → auditedOf r ≡ a
+audited-known r a e = audited-one (auditedOf r) a (audited-carries r ∙ e)
+
+-- and what was said tells the case
+
+pub verdict-passed : (a : Verdict) → verdictCarries a .said ≡ Said.passed → a ≡ passes
+verdict-passed passes e = refl
+verdict-passed (fails q i) e = cc
+
+pub answer-solved : (a : Answer) → answerCarries a .said ≡ Said.solved
+    → a ≡ solved (answerCarries a .rounds) (answerCarries a .evaluations) (answerCarries a .least)
+answer-solved (solved n m c) e = refl
+answer-solved (spent n m) e = cc
+answer-solved (refused q i) e = cc
+
+pub audited-accepted : (a : Audited) → auditedCarries a .said ≡ Said.accepted → a ≡ accepted (auditedCarries a .least)
+audited-accepted (accepted c) e = refl
+audited-accepted (audit-refused q i z) e = cc
+
+pub audited-refused : (a : Audited) → auditedCarries a .said ≡ Said.refused
+    → a ≡ audit-refused (auditedCarries a .question) (auditedCarries a .place) (auditedCarries a .excess)
+audited-refused (accepted c) e = cc
+audited-refused (audit-refused q i z) e = refl

@@ -1,0 +1,95 @@
+// Table files: values as 32-bit and picks as 16-bit numbers, least byte first, one entry a state.
+use crate::text::put;
+use reading::numbers::u16_at;
+use reading::numbers::u32_at;
+ghost use mathlib.Core.List.{_++_};
+ghost use Prim.Native.Nat.{_≤_};
+ghost use lib.ListN.{length, take};
+ghost use Rattle.model.specs.TableFiles.{numberBytes, bytes16, bytes32, entries16, entries32};
+ghost use Rattle.model.specs.Buffers.{Holds};
+
+// The bytes of an entry.
+pub const VALUE_BYTES: usize = 4;
+
+pub const PICK_BYTES: usize = 2;
+
+// Puts a value, 4 bytes.
+fn put_value(out: &mut [u8], at: usize, x: u32) -> usize
+    requires { ⌜ at ≤ length (now out) ⌝ }
+    ensures { λ r. ⌜ Holds (now (out .entry)) (now (out .exit)) r (take at (now (out .entry)) ++ numberBytes 4 x) ⌝ }
+{
+    let b = x / 256;
+    let c = b / 256;
+    let d = c / 256;
+    put(
+        out,
+        at,
+        &[
+            (x % 256) as u8,
+            (b % 256) as u8,
+            (c % 256) as u8,
+            (d % 256) as u8,
+        ],
+    )
+}
+
+// Puts a pick, 2 bytes.
+fn put_pick(out: &mut [u8], at: usize, x: u16) -> usize
+    requires { ⌜ at ≤ length (now out) ⌝ }
+    ensures { λ r. ⌜ Holds (now (out .entry)) (now (out .exit)) r (take at (now (out .entry)) ++ numberBytes 2 x) ⌝ }
+{
+    let b = x / 256;
+    put(out, at, &[(x % 256) as u8, (b % 256) as u8])
+}
+
+// Puts the bytes of a values table at the front of `out`, and answers how many there are.
+pub fn put_values(values: &[u32], out: &mut [u8]) -> usize
+    ensures { λ r. ⌜ Holds (now (out .entry)) (now (out .exit)) r (bytes32 (now (values .entry))) ⌝ }
+{
+    let mut to = 0;
+    let mut i = 0;
+    while i < values.len() {
+        to = put_value(out, to, values[i]);
+        i += 1;
+    }
+    to
+}
+
+// Puts the bytes of a picks table at the front of `out`, and answers how many there are.
+pub fn put_picks(picks: &[u16], out: &mut [u8]) -> usize
+    ensures { λ r. ⌜ Holds (now (out .entry)) (now (out .exit)) r (bytes16 (now (picks .entry))) ⌝ }
+{
+    let mut to = 0;
+    let mut i = 0;
+    while i < picks.len() {
+        to = put_pick(out, to, picks[i]);
+        i += 1;
+    }
+    to
+}
+
+// Reads the entries of a values file into the front of `values`, as far as they fit, and answers how many there are.
+pub fn values_of(bytes: &[u8], values: &mut [u32]) -> usize
+    ensures { λ r. ⌜ Holds (now (values .entry)) (now (values .exit)) r (entries32 (now (bytes .entry))) ⌝ }
+{
+    let count = bytes.len() / VALUE_BYTES;
+    let mut i = 0;
+    while i < count && i < values.len() {
+        values[i] = u32_at(bytes, VALUE_BYTES * i);
+        i += 1;
+    }
+    i
+}
+
+// Reads the entries of a picks file into the front of `picks`, as far as they fit, and answers how many there are.
+pub fn picks_of(bytes: &[u8], picks: &mut [u16]) -> usize
+    ensures { λ r. ⌜ Holds (now (picks .entry)) (now (picks .exit)) r (entries16 (now (bytes .entry))) ⌝ }
+{
+    let count = bytes.len() / PICK_BYTES;
+    let mut i = 0;
+    while i < count && i < picks.len() {
+        picks[i] = u16_at(bytes, PICK_BYTES * i) as u16;
+        i += 1;
+    }
+    i
+}

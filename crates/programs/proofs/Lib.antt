@@ -1,0 +1,2 @@
+-- Laws that the proofs of `programs` cite.
+pub mod Planning

@@ -1,0 +1,115 @@
+-- What a run that is no refusal says of its file, and the tables of a plan: questions 1 to 13 said yes, so the file is laid out and the
+-- tables have room for its states.
+use mathlib.Core.Path.{_≡_, refl, sym, _∙_, ap}
+use Prim.Native.Nat.{ℕ, _≤_}
+use native.Mathlib.Omega.{arith}
+use mathlib.Core.Bool.{true≢false}
+use mathlib.Core.List.{List}
+use lib.ListN.{length, take}
+use lib.Seq.{length-take-le}
+use Rattle.model.specs.Audit.{audit}
+use Rattle.model.specs.Buffers.{Holds}
+use Rattle.model.specs.Limits.{maxStates, planRounds}
+use Rattle.model.specs.Lines.{runStates, runText, planText}
+use Rattle.model.specs.Promises.{planSolution, Plans}
+use Rattle.model.specs.Questions.{passes, fileQuestions, layoutQuestions}
+use Rattle.model.specs.Sections.{problemOf}
+use Rattle.model.specs.Solution.{Answer, solved, spent, refused, Tables, tables, solution}
+use Rattle.guarantee.specs.Prefixes.{audit-tables-front}
+use Rattle.guarantee.specs.Searches.{then-first}
+use Rattle.guarantee.specs.Solutions.{Told, turned-down, ran, told, lent-long}
+use Rattle.printing.specs.Texts.{Brief}
+use Rattle.printing.proofs.Putting.{same, uncut}
+use Rattle.programs.specs.AnswerFor.{AnswerFor}
+
+module _ {f : List ℕ} {a : Answer} (s : AnswerFor f a) where
+  run-passes : ((q i : ℕ) → a ≡ refused q i → ⊥) → layoutQuestions f ≡ passes
+  unfolding fileQuestions
+  run-passes never = go (told f (s .budget) (s .lent))
+    where
+      go : Told f (s .budget) (s .lent) → layoutQuestions f ≡ passes
+      go (turned-down q i e is) = absurd (never q i (s .answer-is ∙ ap (λ x. x .answer) is))
+      go (ran file lent is) = then-first (layoutQuestions f) _ file
+
+  pub solved-passes : {n e C : ℕ} → a ≡ solved n e C → layoutQuestions f ≡ passes
+  solved-passes {n} {e} {C} h =
+      run-passes (λ q i k. let never : solved n e C ≡ refused q i = sym h ∙ k in absurd (true≢false (cc)))
+
+  pub spent-passes : {n e : ℕ} → a ≡ spent n e → layoutQuestions f ≡ passes
+  spent-passes {n} {e} h = run-passes (λ q i k. let never : spent n e ≡ refused q i = sym h ∙ k in absurd (true≢false (cc)))
+
+-- the states of a run lie within the tables that were lent
+pub record Room (t : Tables) (k : ℕ) : Type 0 where
+  pub values-room : k ≤ length (t .values)
+  pub picks-room : k ≤ length (t .picks)
+  pub walk-room : k ≤ length (t .walk-list)
+
+run-states-most : (a : Answer) (n : ℕ) → runStates a n ≤ n
+unfolding runStates
+run-states-most (solved r e C) n = omega arith
+run-states-most (spent r e) n = omega arith
+run-states-most (refused q i) n = omega arith
+
+run-none : (a : Answer) (q i n : ℕ) → a ≡ refused q i → runStates a n ≡ 0
+unfolding runStates
+run-none a q i n e = rw e refl
+
+pub run-room
+    : (f : List ℕ) (budget : ℕ) {t : Tables} {a : Answer} {k : ℕ} → a ≡ solution f budget t .answer
+    → k ≡ runStates a (problemOf f .states) → Room t k
+run-room f budget {t} {a} {k} is e = go (told f budget t)
+  where
+    go : Told f budget t → Room t k
+    go (turned-down q i failed s) =
+        let z : k ≡ 0 = e ∙ run-none a q i (problemOf f .states) (is ∙ ap (λ x. x .answer) s) in
+        record { values-room = omega arith; picks-room = omega arith; walk-room = omega arith }
+    go (ran file lent s) =
+        let long = lent-long (problemOf f) budget t lent in
+        let most : k ≤ problemOf f .states = rw e (run-states-most a (problemOf f .states)) in
+        record {
+          values-room = omega (arith, long .values-long);
+          picks-room = omega (arith, long .picks-long);
+          walk-room = omega (arith, long .list-long);
+        }
+
+-- what was put is the text of the plan
+module _ (f values picks : List ℕ) {values′ picks′ remembered′ walk′ : List ℕ} {a : Answer} {k : ℕ}
+    (answer-is : a ≡ planSolution f values picks .answer)
+    (left : tables values′ picks′ remembered′ walk′ ≡ planSolution f values picks .tables)
+    (e : k ≡ runStates a (problemOf f .states)) (within : k ≤ length walk′) where
+  text-is
+      : runText a values′ picks′ (take k walk′) (length (take k walk′)) ≡ planText (problemOf f .states) (planSolution f values picks)
+  unfolding planText
+  text-is =
+      let s = planSolution f values picks in
+      let v : values′ ≡ s .tables .values = ap (λ t. t .values) left in
+      let p : picks′ ≡ s .tables .picks = ap (λ t. t .picks) left in
+      let w : walk′ ≡ s .tables .walk-list = ap (λ t. t .walk-list) left in
+      rw (length-take-le k walk′ within, e, answer-is, v, p, w) refl
+
+  pub plans
+      : {out out′ : List ℕ} {size : ℕ} → length values′ ≡ length values → length picks′ ≡ length picks → length walk′ ≡ maxStates
+      → Holds out out′ size (runText a values′ picks′ (take k walk′) (length (take k walk′)))
+      → Brief (runText a values′ picks′ (take k walk′) (length (take k walk′))) (length (take k walk′))
+      → Plans f values picks out values′ picks′ out′ size k
+  plans {out} {out′} {size} lv lp most text short =
+      let room = run-room f planRounds answer-is e in
+      let size-is = length-take-le k walk′ within in
+      let fits = rw text-is at (short (omega (arith, size-is, most))) in
+      let put = same text-is text in
+      record {
+        text = put;
+        whole = λ l. uncut put (omega (arith, fits, size-is, most, within, put .long));
+        values-are = ap (λ t. t .values) left;
+        picks-are = ap (λ t. t .picks) left;
+        states-are = rw (← answer-is) e;
+        values-hold = omega (arith, room .values-room, lv);
+        picks-hold = omega (arith, room .picks-room, lp);
+      }
+
+-- what was read of two tables has the audit of the whole tables
+pub audit-read
+    : (f : List ℕ) {values picks v₀ p₀ v p : List ℕ} {n m : ℕ} → length v ≡ maxStates → length p ≡ maxStates → Holds v₀ v n values
+    → Holds p₀ p m picks → audit f (take n v) (take m p) ≡ audit f values picks
+audit-read f {values} {picks} lv lp h k =
+    rw (h .front, k .front, lv, lp) (audit-tables-front maxStates f values picks (omega arith))

@@ -1,0 +1,2 @@
+-- What the contracts of `programs` cite beyond the model.
+pub mod AnswerFor

@@ -1,0 +1,92 @@
+-- The value of a row from the part of the file that the index gives to it, and its bounds.
+-- The problem is opened where the two readings of the outcomes meet.
+use mathlib.Core.Path.{_≡_, _∙_}
+use Prim.Native.Nat.{ℕ, _+_, _-_, _*_, _/_, _≤_, _<_}
+use native.Mathlib.Nat.{div-le-self, mul-le-mul}
+use native.Mathlib.Omega.{arith}
+use mathlib.Core.Bool.{Bool, true, false}
+use mathlib.Core.List.{List}
+use borrow.Author.Tests.{le-ltb}
+use lib.Dec.{eqb, ltb}
+use lib.ListN.{length, getD, drop}
+use Rattle.model.specs.Bytes.{u16At}
+use Rattle.model.specs.Limits.{weightTotal, maxRows, maxSeconds, stickSeconds, ticksPerSecond, valueBound}
+use Rattle.model.specs.Sections.{problemOf, rateSeconds, secondsOn, rowAt, kindOf, costNumberOf, outcomeAt, outcomeCountOf}
+use Rattle.model.specs.Value.{weightedSum, rowValue}
+use Rattle.guarantee.specs.TableFiles.{u16-front}
+use Rattle.reading.specs.Ready.{Ready, RowReady, SumThere}
+use Rattle.reading.specs.RowParts.{part-size, part-reads, part-begins, part-ends, partFrom, partTo, rows-end}
+use Rattle.reading.specs.Tests.{rowsBase, partOf, outcomesIn}
+use Rattle.reading.specs.Bounds.{byteBound, shortBound}
+
+-- a weight of two bytes times a value of four
+pub product-high : {w x : ℕ} → w < shortBound → x < valueBound → w * x < shortBound * valueBound
+product-high a b = omega (arith, mul-le-mul a b)
+
+-- a cost number of two bytes gives at most this many seconds, whatever its kind
+abbrev secondsBound : ℕ
+secondsBound = stickSeconds + maxSeconds
+
+seconds-high : (b : Bool) (n : ℕ) → n < shortBound → secondsOn b n ≤ secondsBound
+unfolding secondsOn rateSeconds
+seconds-high true n h = omega arith
+seconds-high false n h = omega (arith, div-le-self (stickSeconds + (n - 1)) n)
+
+pub cost-bounded : (f : List ℕ) → ((i : ℕ) → getD f i 0 < byteBound) → (r : ℕ) → problemOf f .cost r ≤ secondsBound
+unfolding problemOf u16At
+cost-bounded f bytes r =
+    let i = rowAt f r + 2 in
+    seconds-high (eqb (kindOf f r) 0) (costNumberOf f r) (omega (arith, bytes i, bytes (i + 1)))
+
+module _ {f index : List ℕ} {entries r : ℕ} (h : RowReady f index entries r) where
+  pub part-from : partFrom index r ≡ outcomeAt f r
+  part-from = part-begins f index (problemOf f .rows) (h .ready .outcomes-at) (h .ready .outcomes-follow) r (h .row-there)
+
+  pub part-to : partTo index r ≡ partFrom index r + 4 * outcomeCountOf f r
+  part-to =
+      rw part-from (part-ends f index (problemOf f .rows) (h .ready .outcomes-at) (h .ready .outcomes-follow) r (h .row-there))
+
+  pub part-inside : partTo index r ≤ length f
+  part-inside = omega (arith, part-from, part-to, h .ready .outcomes-follow r, h .ready .outcomes-there r (h .row-there))
+
+  pub part-ordered : partFrom index r ≤ partTo index r
+  part-ordered = omega (arith, part-to)
+
+  pub part-holds : outcomesIn (partOf f index r) ≡ problemOf f .outcomes r
+  unfolding problemOf
+  part-holds = part-reads f (partFrom index r) (partTo index r) (outcomeCountOf f r) part-to part-inside ∙ rw part-from
+
+  part-successor : (i : ℕ) → i < outcomeCountOf f r → u16At (partOf f index r) (4 * i) < entries
+  part-successor i l =
+      rw (u16-front (partTo index r - partFrom index r) (drop (partFrom index r) f) (4 * i) (omega (arith, part-to)), part-from)
+      (omega (arith, h .ready .successor-there r i (h .row-there) l))
+
+  pub sum-there : SumThere (partOf f index r) entries
+  sum-there =
+      let size = part-size f (partFrom index r) (partTo index r) (outcomeCountOf f r) part-to part-inside in
+      record {
+        few = omega (arith, h .ready .outcomes-few r);
+        there = λ i l. part-successor i (omega arith);
+      }
+
+  pub cost-fits : ((i : ℕ) → getD f i 0 < byteBound) → getD index (rowsBase + 2 * r + 1) 0 ≤ ticksPerSecond * secondsBound
+  cost-fits bytes = omega (arith, h .ready .ticks r (h .row-there), cost-bounded f bytes r)
+
+  pub row-value-is
+      : (v : ℕ → ℕ) → getD index (rowsBase + 2 * r + 1) 0 + weightedSum (outcomesIn (partOf f index r)) v / weightTotal
+      ≡ rowValue (problemOf f) v r
+  unfolding rowValue
+  row-value-is v = rw (part-holds, h .ready .ticks r (h .row-there))
+
+  -- a row's value is at least its cost
+  pub cost-passes : (v : ℕ → ℕ) (x : ℕ) → x ≤ getD index (rowsBase + 2 * r + 1) 0 → ltb (rowValue (problemOf f) v r) x ≡ false
+  cost-passes v x l = le-ltb (rowValue (problemOf f) v r) x (omega (arith, row-value-is v))
+
+-- the rows of a state, as the index has them
+module _ {f index : List ℕ} (h : Ready f index) (s : ℕ) (l : s < problemOf f .states) where
+  pub row-ready : {entries r : ℕ} → problemOf f .states ≤ entries → r < getD index (s + 1) 0 → RowReady f index entries r
+  row-ready there own =
+      record { ready = h; entries-there = there; row-there = omega (arith, rows-end f index h s l, h .rows-within s l) }
+
+  pub last-row-high : getD index (s + 1) 0 ≤ maxRows
+  last-row-high = omega (arith, rows-end f index h s l, h .rows-within s l, h .rows-high)

@@ -1,0 +1,31 @@
+// The states of a file whose sections are whole: which are goals, and their estimates.
+// The rows of the states are in the index.
+use crate::layout::FIRST_STATE;
+use crate::numbers::byte_at;
+use crate::numbers::u32_at;
+ghost use mathlib.Core.Path.{_≡_};
+ghost use Prim.Native.Nat.{_≤_, _<_};
+ghost use lib.ListN.{length};
+ghost use Rattle.model.specs.Questions.{passes, layoutQuestions};
+ghost use Rattle.model.specs.Rounds.{fillTo};
+ghost use Rattle.model.specs.Sections.{problemOf};
+
+// Whether state s is a goal.
+pub fn is_goal(file: &[u8], s: usize) -> bool
+    requires { ⌜ (layoutQuestions (now file) ≡ passes) × (s < problemOf (now file) .states) ⌝ }
+    ensures { λ r. ⌜ r ≡ problemOf (now (file .entry)) .goal s ⌝ }
+{
+    byte_at(file, FIRST_STATE + 6 * s + 5) == 1
+}
+
+// Fills in the estimates of the file's n states.
+pub fn estimates(file: &[u8], n: usize, values: &mut [u32])
+    requires { ⌜ (layoutQuestions (now file) ≡ passes) × (n ≡ problemOf (now file) .states) × (n ≤ length (now values)) ⌝ }
+    ensures { λ _. ⌜ now (values .exit) ≡ fillTo (problemOf (now (file .entry)) .estimate) (now (values .entry)) n ⌝ }
+{
+    let mut s = 0;
+    while s < n {
+        values[s] = u32_at(file, FIRST_STATE + 6 * s);
+        s += 1;
+    }
+}

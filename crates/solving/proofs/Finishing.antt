@@ -1,0 +1,162 @@
+-- From the questions to the answer: what questions 1 to 13 give, how the tables begin, and that a run's end is the solution.
+-- The check of question 14 never says no, so the solution is that of the run without it.
+use mathlib.Core.Path.{_≡_, refl, sym, _∙_, ap, subst}
+use Prim.Native.Nat.{ℕ, _<_}
+use native.Mathlib.Omega.{arith}
+use mathlib.Core.Bool.{Bool, true, false, not}
+use mathlib.Core.List.{List, []}
+use lib.IntN.{pos}
+use lib.ListN.{length, take}
+use Rattle.model.specs.Carried.{Carried, refusal}
+use Rattle.model.specs.Limits.{noPick}
+use Rattle.model.specs.Problem.{Problem}
+use Rattle.model.specs.Promises.{Leaves}
+use Rattle.model.specs.Questions.{passes, fails, fileQuestions}
+use Rattle.model.specs.Sections.{problemOf}
+use Rattle.model.specs.Value.{rowValue, byState}
+use Rattle.model.specs.Rounds.{Machine, runFrom, runOf, fillTo, machineStart, listTable}
+use Rattle.model.specs.Solution.{Tables, tables, fine, solutionOf, solveQuestions, solution}
+use Rattle.guarantee.specs.WellFormed.{WellFormed}
+use Rattle.guarantee.specs.WellFormed.{well-formed}
+use Rattle.guarantee.specs.Values.{rowValue-same-states}
+use Rattle.guarantee.specs.Tables.{fill-length, fill-entry}
+use Rattle.guarantee.specs.Sound.{Sound, evaluation-fits}
+use Rattle.guarantee.specs.Solutions.{Lent, questions, lent-long, lent-sound, solution-run, solution-refused}
+use Rattle.walking.specs.Walkable.{walkable}
+use Rattle.backing.specs.Backable.{machine, Scannable}
+use Rattle.solving.specs.declared.run.Ended.{Ended}
+use Rattle.solving.specs.Runs.{machineWith, endedAs, Runnable, Ran}
+use Rattle.solving.specs.Solvable.{solveTests, runCarries, Solvable}
+use Rattle.solving.proofs.Filling.{fill-same, list-table-same}
+
+-- the machine as it starts in lent tables
+abbrev start : List ℕ → Tables → Machine
+start f t = machineStart (problemOf f) (t .values) (t .picks) (t .remembered)
+
+module _ {f index : List ℕ} {budget : ℕ} {t : Tables} (h : Solvable f index budget t) where
+  pub solvable-formed : WellFormed (problemOf f)
+  solvable-formed = well-formed f (h .file-passes)
+
+  pub long : Lent (problemOf f) budget t
+  long = lent-long (problemOf f) budget t (h .tables-pass)
+
+  start-is-sound : Sound (problemOf f) (start f t)
+  start-is-sound = lent-sound f budget t (h .file-passes) (h .tables-pass)
+
+  -- "At first V = H": rows can be evaluated
+  pub start-scannable
+      : {states : ℕ} {values′ : List ℕ} → states ≡ problemOf f .states
+      → values′ ≡ fillTo (problemOf f .estimate) (t .values) states
+      → Scannable f index values′ (t .remembered)
+  unfolding machineStart
+  start-scannable {states} {values′} count filled =
+      let same : values′ ≡ start f t .values = filled ∙ rw count refl in
+      record {
+        ready = h .ready;
+        values-long = rw same (omega (arith, fill-length (problemOf f .estimate) (t .values) (problemOf f .states), long .values-long));
+        remembered-long = long .remembered-long;
+        fits = rw same (evaluation-fits (problemOf f) solvable-formed (start f t) start-is-sound);
+      }
+
+-- the tables as they begin: "At first V = H, no state has a pick, and each row remembers its value under H."
+pub record Started
+    (f index : List ℕ) (budget : ℕ) (t : Tables) (states rows : ℕ) (values′ picks′ remembered′ : List ℕ) : Type 0 where
+  pub solvable : Solvable f index budget t
+  pub states-count : states ≡ problemOf f .states
+  pub rows-count : rows ≡ problemOf f .rows
+  pub filled : values′ ≡ fillTo (problemOf f .estimate) (t .values) states
+  pub cleared : picks′ ≡ fillTo (λ s. noPick) (t .picks) states
+  pub kept : remembered′ ≡ fillTo (rowValue (problemOf f) (byState values′)) (t .remembered) rows
+
+pub tables-begun
+    : {f index : List ℕ} {budget : ℕ} {t : Tables} {states rows : ℕ} {values′ picks′ remembered′ : List ℕ}
+    → Solvable f index budget t → states ≡ problemOf f .states → rows ≡ problemOf f .rows → values′ ≡ fillTo (problemOf f .estimate) (t .values) states
+    → picks′ ≡ fillTo (λ s. noPick) (t .picks) states
+    → remembered′ ≡ fillTo (rowValue (problemOf f) (byState values′)) (t .remembered) rows
+    → Started f index budget t states rows values′ picks′ remembered′
+tables-begun h states rows filled cleared kept =
+    record { solvable = h; states-count = states; rows-count = rows; filled = filled; cleared = cleared; kept = kept }
+
+module _ {f index : List ℕ} {budget : ℕ} {t : Tables} {states rows : ℕ} {values′ picks′ remembered′ : List ℕ}
+    (h : Started f index budget t states rows values′ picks′ remembered′) where
+  formed : WellFormed (problemOf f)
+  formed = solvable-formed (h .solvable)
+
+  -- each row remembers its value under H
+  under-estimates : (r : ℕ) → r < problemOf f .rows → rowValue (problemOf f) (byState values′) r ≡ rowValue (problemOf f) (problemOf f .estimate) r
+  under-estimates =
+      rowValue-same-states (problemOf f) formed (byState values′) (problemOf f .estimate)
+      (λ s b. rw (h .filled, h .states-count) (fill-entry (problemOf f .estimate) (t .values) (problemOf f .states) s (long (h .solvable) .values-long) b))
+
+  begun : machine values′ picks′ remembered′ [] 0 true ≡ start f t
+  unfolding machineStart
+  begun =
+      let same : remembered′ ≡ fillTo (rowValue (problemOf f) (problemOf f .estimate)) (t .remembered) (problemOf f .rows) =
+      h .kept ∙ rw (h .rows-count) (fill-same _ _ (t .remembered) (problemOf f .rows) under-estimates) in
+      rw (same, h .filled, h .cleared, h .states-count) refl
+
+  pub start-runnable : Runnable f index (tables values′ picks′ remembered′ (t .walk-list))
+  start-runnable =
+      record {
+        walkable = walkable (h .solvable .file-passes) (h .solvable .ready);
+        sound = subst (Sound (problemOf f)) (sym begun) (lent-sound f budget t (h .solvable .file-passes) (h .solvable .tables-pass));
+        list-long = long (h .solvable) .list-long;
+      }
+
+  -- the run's end, once the walk list is ended
+  module _ {e : ℕ} {t″ : Tables} {d : Ended} (tolerance : e ≡ problemOf f .tolerance)
+      (ran : Ran (problemOf f) e budget (tables values′ picks′ remembered′ (t .walk-list)) t″ d) where
+    abbrev last : Machine
+    last = machineWith t″ (take (d .listed) (t″ .walk-list)) (d .evaluations) (not (d .solved))
+
+    run-is : runOf (problemOf f) budget (t .values) (t .picks) (t .remembered) ≡ endedAs (d .solved) (d .rounds) last
+    run-is =
+        ap (λ m. runFrom (problemOf f) (problemOf f .tolerance) budget true 0 m) (sym begun)
+        ∙ (ap (λ x. runFrom (problemOf f) x budget true 0 (machine values′ picks′ remembered′ [] 0 true)) (sym tolerance) ∙ ran .ends)
+
+    solution-is : solution f budget t ≡ solutionOf (problemOf f) (t .walk-list) (fine (endedAs (d .solved) (d .rounds) last))
+    solution-is =
+        solution-run f budget t (h .solvable .file-passes) (h .solvable .tables-pass)
+        ∙ ap (λ r. solutionOf (problemOf f) (t .walk-list) (fine r)) run-is
+
+    pub run-leaves
+        : {carried : Carried} {list‴ : List ℕ} → list‴ ≡ listTable states (take (d .listed) (t″ .walk-list)) (t″ .walk-list)
+        → carried ≡ runCarries (d .solved) (d .rounds) (d .evaluations) (d .least)
+        → Leaves carried (tables (t″ .values) (t″ .picks) (t″ .remembered) list‴) (solution f budget t)
+    unfolding solutionOf
+    run-leaves {carried} {list‴} padded carries =
+        rw solution-is (go (d .solved) refl carries)
+      where
+        same-list : list‴ ≡ listTable (problemOf f .states) (take (d .listed) (t″ .walk-list)) (t .walk-list)
+        same-list =
+            padded
+            ∙ rw (h .states-count)
+            (list-table-same (problemOf f .states) (take (d .listed) (t″ .walk-list)) (t .walk-list) (t″ .walk-list) (ran .beyond))
+
+        go : (b : Bool) → d .solved ≡ b → carried ≡ runCarries b (d .rounds) (d .evaluations) (d .least)
+            → Leaves carried (tables (t″ .values) (t″ .picks) (t″ .remembered) list‴)
+            (solutionOf (problemOf f) (t .walk-list) (fine (endedAs b (d .rounds) last)))
+        go true q c = record { answer = c ∙ rw (ran .least q) refl; left = rw same-list refl }
+        go false q c = record { answer = c; left = rw same-list refl }
+
+-- a no to questions 1 to 13: "no table has changed"
+refusal-leaves
+    : (f : List ℕ) (budget : ℕ) (t : Tables) (q i : ℕ) → questions f budget t ≡ fails q i
+    → Leaves (refusal q i (pos 0)) t (solution f budget t)
+refusal-leaves f budget t q i h = rw (solution-refused f budget t q i h) (record { answer = refl; left = refl })
+
+module _ (f : List ℕ) (budget : ℕ) (t : Tables) {q i : ℕ} where
+  pub file-refused : fails q i ≡ fileQuestions f → Leaves (refusal q i (pos 0)) t (solution f budget t)
+  file-refused h = refusal-leaves f budget t q i (rw (← h) refl)
+
+  pub tables-refused : passes ≡ fileQuestions f → fails q i ≡ solveQuestions (problemOf f) budget t
+      → Leaves (refusal q i (pos 0)) t (solution f budget t)
+  tables-refused h k = refusal-leaves f budget t q i (rw (← h) (sym k))
+
+-- questions 12 and 13 as tests of lengths
+pub tests-are
+    : (p : Problem) (budget : ℕ) (t : Tables) {states rows : ℕ} → states ≡ p .states → rows ≡ p .rows
+    → solveTests states rows (length (t .values)) (length (t .picks)) (length (t .remembered)) (length (t .walk-list)) budget
+    ≡ solveQuestions p budget t
+unfolding solveTests solveQuestions
+tests-are p budget t states rows = rw (states, rows) refl

@@ -1,0 +1,214 @@
+-- Laws of rounds and runs, one for each event of the code: a round done, another round, and the two ends of a run.
+-- What is left of the run gives the same as the whole; each round counts at most as many evaluations as there can be rows.
+use mathlib.Core.Path.{_≡_, refl, sym, _∙_, ap, subst}
+use Prim.Native.Nat.{ℕ, suc, _+_, _-_, _*_, _≤_, _<_}
+use native.Mathlib.Numerals.{add-one}
+use native.Mathlib.Omega.{arith}
+use mathlib.Core.Bool.{Bool, true, false}
+use mathlib.Core.List.{List, []}
+use mathlib.Core.Logic.{_⊎_}
+use lib.Dec.{eqb}
+use lib.ListN.{getD, length, take, drop}
+use lib.Seq.{drop-drop}
+use borrow.Author.Tests.{ne-eqb}
+use Rattle.model.specs.Limits.{giveUp, maxRows, maxBudget}
+use Rattle.model.specs.Problem.{Problem, ownRow}
+use Rattle.model.specs.Sections.{problemOf}
+use Rattle.model.specs.Value.{byState}
+use Rattle.model.specs.Walk.{Reached, walk, leastTo, leastCost}
+use Rattle.model.specs.Rounds.{Machine, backups, round, walked, Ending, runFrom}
+use Rattle.model.specs.Solution.{Tables, tables}
+use Rattle.guarantee.specs.Accepted.{Accepts}
+use Rattle.guarantee.specs.Sound.{Sound}
+use Rattle.guarantee.specs.Backups.{walk-opens, round-sound, run-stops}
+use Rattle.guarantee.specs.Evaluations.{round-count}
+use Rattle.guarantee.specs.Solved.{Still, round-still, resting-accepted}
+use Rattle.guarantee.specs.Walks.{reached-state, reached-marked}
+use Rattle.walking.specs.Costs.{Costed}
+use Rattle.walking.specs.Walked.{Walked, walked-start, walked-costed, walked-least}
+use Rattle.backing.specs.Backable.{countBound, machine, Backable, Listed}
+use Rattle.solving.specs.declared.run.RoundDone.{RoundDone}
+use Rattle.solving.specs.Runs.{machineWith, endedAs, Runnable, Rounded}
+
+-- what stays beyond a place stays beyond every later one
+later-beyond : (k n : ℕ) (l l′ : List ℕ) → k ≤ n → drop k l′ ≡ drop k l → drop n l′ ≡ drop n l
+later-beyond k n l l′ h e =
+    let m : k + (n - k) ≡ n = omega arith in
+    rw (← m) (sym (drop-drop (n - k) k l′) ∙ (ap (drop (n - k)) e ∙ drop-drop (n - k) k l))
+
+module _ {f index : List ℕ} {t : Tables} (h : Runnable f index t) where
+  abbrev p : Problem
+  p = problemOf f
+
+  pub runnable-backable : Backable f index (t .values) (t .picks) (t .remembered)
+  runnable-backable = record { ready = h .walkable .ready; formed = h .walkable .formed; sound = h .sound }
+
+  -- after the walk of a round
+  module _ {marks′ list′ : List ℕ} {r : ℕ} (w : Walked f (t .picks) (t .walk-list) marks′ list′ r) where
+    pub walk-listed : length list′ ≡ length (t .walk-list) → Listed f list′ r
+    walk-listed same-length =
+        record {
+          long = omega (arith, w .few, h .list-long);
+          opens = λ s i. walk-opens p (h .walkable .formed) (byState (t .picks)) s (rw (w .list) at i);
+        }
+
+    -- the backups along the list that was walked are the round, whatever list stood there before
+    abbrev backed : ℕ → ℕ → Machine
+    backed e count = backups p e (take r list′) (machineWith t (take r list′) count false)
+
+    round-left : (e count : ℕ) (l : List ℕ) (b : Bool) → backed e count ≡ round p e (machineWith t l count b)
+    unfolding round
+    round-left e count l b = rw (w .list) refl
+
+    pub round-room
+        : (e count : ℕ) → round p e (machineWith t [] count true) .evaluations < countBound → backed e count .evaluations < countBound
+    round-room e count l = rw (round-left e count [] true) l
+
+    -- a round in which nothing moved: the picks are still those of the walk, and each reached one fits
+    module _ (e count : ℕ) {values′ picks′ remembered′ : List ℕ} {count′ : ℕ} {moved′ : Bool}
+        (done : machine values′ picks′ remembered′ (take r list′) count′ moved′ ≡ backed e count) (tolerance : e ≡ p .tolerance)
+        (quiet : moved′ ≡ false) where
+      abbrev before : Machine
+      before = machineWith t [] count true
+
+      same : machine values′ picks′ remembered′ (take r list′) count′ moved′ ≡ round p e before
+      same = done ∙ round-left e count [] true
+
+      still : Still p e (walk p (byState (t .picks)) .list) (walked p before) (round p e before)
+      still =
+          round-still p (h .walkable .formed) e before (h .sound) (ap (λ (x : Machine). x .moved) (sym same) ∙ quiet)
+
+      picks-stay : picks′ ≡ t .picks
+      picks-stay = ap (λ (x : Machine). x .picks) same ∙ still .picks
+
+      accepts : Accepts p (byState (t .values)) (byState (t .picks)) (leastCost p (byState (t .picks)))
+      accepts =
+          resting-accepted p (h .walkable .formed) before (h .sound)
+          (λ s i. rw tolerance at (still .rests s i))
+
+      reached-fits
+          : (s : ℕ) → Reached p (byState (t .picks)) s → p .goal s ≡ false
+          → (getD (t .picks) s 0 ≡ giveUp) ⊎ (ownRow p s (getD (t .picks) s 0) ≡ true)
+      reached-fits s reached no-goal =
+          let formed = h .walkable .formed in
+          let picks = byState (t .picks) in
+          let marked : eqb (getD (walk p picks .marks) s 0) 0 ≡ false =
+          ne-eqb (getD (walk p picks .marks) s 0) 0 (λ z. omega (arith, z, reached-marked p formed picks s reached)) in
+          accepts .pick-fits s (reached-state p formed picks s reached) no-goal marked
+
+      pub quiet-costed : Costed f picks′ marks′
+      quiet-costed = rw picks-stay (walked-costed (h .walkable) (t .picks) (w .marks) (h .sound .picks-length) reached-fits)
+
+      pub quiet-start : getD marks′ (p .start) 0 ≡ 1
+      quiet-start = walked-start (h .walkable) (t .picks) (w .marks)
+
+      pub quiet-least : (n c : ℕ) → n ≡ p .states → c ≡ leastTo p (byState picks′) marks′ n → c ≡ leastCost p (byState picks′)
+      quiet-least n c states least =
+          walked-least (h .walkable) picks′ (w .marks ∙ rw picks-stay refl) n c states least
+
+    pub round-done
+        : (e count : ℕ) (d : RoundDone) {values′ picks′ remembered′ : List ℕ} → d .listed ≡ r
+        → machine values′ picks′ remembered′ (take r list′) (d .count) (d .moved) ≡ backed e count
+        → (d .moved ≡ false → d .least ≡ leastCost p (byState picks′)) → d .over ≡ false
+        → Rounded p e t count (tables values′ picks′ remembered′ list′) d
+    round-done e count d listed done least fine =
+        record {
+          same = λ l b. rw listed (done ∙ round-left e count l b);
+          least = least;
+          few = rw listed (w .few);
+          beyond = later-beyond r (p .states) (t .walk-list) list′ (w .few) (w .rest);
+          fine = fine;
+        }
+
+-- the loop over rounds: what is left of the run gives w
+pub record RunLeft
+    (f index : List ℕ) (e budget : ℕ) (w : Ending) (list₀ : List ℕ) (t : Tables) (rounds count listed : ℕ) : Type 0 where
+  pub runnable : Runnable f index t
+  pub within : rounds ≤ budget
+  pub left : runFrom (problemOf f) e (budget - rounds) true rounds (machineWith t (take listed (t .walk-list)) count true) ≡ w
+  pub counted : count ≤ maxRows * rounds
+  pub few : listed ≤ problemOf f .states
+  pub beyond : drop (problemOf f .states) (t .walk-list) ≡ drop (problemOf f .states) list₀
+
+pub run-starts
+    : {f index : List ℕ} {t : Tables} {e budget : ℕ} → Runnable f index t
+    → RunLeft f index e budget (runFrom (problemOf f) e budget true 0 (machineWith t [] 0 true)) (t .walk-list) t 0 0 0
+run-starts {f} {index} {t} {e} {budget} h =
+    let z : budget - 0 ≡ budget = omega arith in
+    record { runnable = h; within = omega arith; left = rw z refl; counted = omega arith; few = omega arith; beyond = refl }
+
+one-round
+    : (p : Problem) (e k j n : ℕ) (m : Machine) (w : Ending) → j ≡ suc k → runFrom p e j true n m ≡ w
+    → runFrom p e k (round p e m .moved) (n + 1) (round p e m) ≡ w
+unfolding runFrom
+one-round p e k j n m w h left = rw add-one (rw h at left)
+
+module _ {f index : List ℕ} {e budget : ℕ} {w : Ending} {list₀ : List ℕ} {t : Tables} {rounds count listed : ℕ}
+    (h : RunLeft f index e budget w list₀ t rounds count listed) where
+  -- under the largest budget there is room for what the next round counts
+  pub next-round-room
+      : rounds < budget → budget ≤ maxBudget → round (problemOf f) e (machineWith t [] count true) .evaluations < countBound
+  next-round-room l top =
+      omega (
+        arith,
+        h .counted,
+        h .runnable .walkable .formed .rows-high,
+        round-count (problemOf f) e (h .runnable .walkable .formed) (machineWith t [] count true),
+      )
+
+  module _ {t′ : Tables} {d : RoundDone} (r : Rounded (problemOf f) e t count t′ d) (l : rounds < budget) where
+    abbrev this : Machine
+    this = machineWith t (take listed (t .walk-list)) count true
+
+    abbrev next : Machine
+    next = machineWith t′ (take (d .listed) (t′ .walk-list)) (d .count) (d .moved)
+
+    went : next ≡ round (problemOf f) e this
+    went = r .same (take listed (t .walk-list)) true
+
+    went-on : runFrom (problemOf f) e (budget - (rounds + 1)) (d .moved) (rounds + 1) next ≡ w
+    went-on =
+        subst
+        (λ (x : Machine). runFrom (problemOf f) e (budget - (rounds + 1)) (x .moved) (rounds + 1) x ≡ w)
+        (sym went)
+        (one-round (problemOf f) e (budget - (rounds + 1)) (budget - rounds) rounds this w (omega arith) (h .left))
+
+    after-sound : Sound (problemOf f) next
+    after-sound =
+        subst
+        (Sound (problemOf f))
+        (sym went)
+        (round-sound (problemOf f) (h .runnable .walkable .formed) e this (h .runnable .sound))
+
+    pub run-goes-on
+        : d .moved ≡ true → length (t′ .walk-list) ≡ length (t .walk-list)
+        → RunLeft f index e budget w list₀ t′ (rounds + 1) (d .count) (d .listed)
+    run-goes-on moved long =
+        record {
+          runnable =
+              record {
+                walkable = h .runnable .walkable;
+                sound = after-sound;
+                list-long = omega (arith, long, h .runnable .list-long);
+              };
+          within = omega arith;
+          left = rw moved at went-on;
+          counted =
+              omega (
+                arith,
+                h .counted,
+                h .runnable .walkable .formed .rows-high,
+                ap (λ (x : Machine). x .evaluations) went,
+                round-count (problemOf f) e (h .runnable .walkable .formed) this,
+              );
+          few = r .few;
+          beyond = r .beyond ∙ h .beyond;
+        }
+
+    pub run-solved
+        : d .moved ≡ false → w ≡ endedAs true (rounds + 1) (machineWith t′ (take (d .listed) (t′ .walk-list)) (d .count) false)
+    run-solved still = sym (rw still at went-on) ∙ run-stops (problemOf f) e (budget - (rounds + 1)) (rounds + 1) _
+
+  pub run-out-of-budget : budget ≤ rounds → w ≡ endedAs false rounds (machineWith t (take listed (t .walk-list)) count true)
+  unfolding runFrom
+  run-out-of-budget l = let k : budget - rounds ≡ 0 = omega arith in sym (rw k at (h .left))

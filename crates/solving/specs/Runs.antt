@@ -1,0 +1,58 @@
+-- What a round and a run are asked, and what they leave: the model's round, and how the model's run ends.
+-- The walk list is its first entries, as many as the last walk listed.
+use mathlib.Core.Path.{_≡_}
+use Prim.Native.Nat.{ℕ, _≤_}
+use mathlib.Core.Bool.{Bool, true, false, not}
+use mathlib.Core.List.{List, []}
+use lib.ListN.{length, take, drop}
+use Rattle.model.specs.Problem.{Problem, giveUpCost}
+use Rattle.model.specs.Sections.{problemOf}
+use Rattle.model.specs.Value.{byState}
+use Rattle.model.specs.Walk.{leastCost}
+use Rattle.model.specs.Rounds.{Machine, Ending, solved, spent, round, runFrom}
+use Rattle.model.specs.Solution.{Tables}
+use Rattle.guarantee.specs.Sound.{SoundTables}
+use Rattle.walking.specs.Walkable.{Walkable}
+use Rattle.backing.specs.Backable.{machine}
+use Rattle.solving.specs.declared.run.RoundDone.{RoundDone}
+use Rattle.solving.specs.declared.run.Ended.{Ended}
+
+-- the machine of lent tables, with a walk list, the evaluations so far, and whether something moved
+abbrev pub machineWith : Tables → List ℕ → ℕ → Bool → Machine
+machineWith t list count moved = machine (t .values) (t .picks) (t .remembered) list count moved
+
+-- a run that ended as solved, or as spent
+abbrev pub endedAs : Bool → ℕ → Machine → Ending
+endedAs true n m = solved n m
+endedAs false n m = spent n m
+
+-- what a round stands on
+pub record Runnable (f index : List ℕ) (t : Tables) : Type 0 where
+  pub walkable : Walkable f index
+  pub sound : SoundTables (problemOf f) (t .values) (t .picks) (t .remembered)
+  pub list-long : problemOf f .states ≤ length (t .walk-list)
+
+-- the numbers of the problem that a round is handed
+pub record Given (p : Problem) (n e cost : ℕ) : Type 0 where
+  pub states : n ≡ p .states
+  pub tolerance : e ≡ p .tolerance
+  pub give : cost ≡ giveUpCost p
+
+-- a round done: the tables, the first `listed` entries of the walk list and the counts are those of the model's round;
+-- where nothing moved C is that of the picks
+pub record Rounded (p : Problem) (e : ℕ) (t : Tables) (count : ℕ) (t′ : Tables) (r : RoundDone) : Type 0 where
+  pub same : (l : List ℕ) (b : Bool)
+      → machineWith t′ (take (r .listed) (t′ .walk-list)) (r .count) (r .moved) ≡ round p e (machineWith t l count b)
+  pub least : r .moved ≡ false → r .least ≡ leastCost p (byState (t′ .picks))
+  pub few : r .listed ≤ p .states
+  pub beyond : drop (p .states) (t′ .walk-list) ≡ drop (p .states) (t .walk-list)
+  pub fine : r .over ≡ false
+
+-- a run done: how it ended is how the model's run ends; where it is solved C is that of the picks as they are left
+pub record Ran (p : Problem) (e budget : ℕ) (t t′ : Tables) (r : Ended) : Type 0 where
+  pub ends : runFrom p e budget true 0 (machineWith t [] 0 true)
+      ≡ endedAs (r .solved) (r .rounds) (machineWith t′ (take (r .listed) (t′ .walk-list)) (r .evaluations) (not (r .solved)))
+  pub least : r .solved ≡ true → r .least ≡ leastCost p (byState (t′ .picks))
+  pub few : r .listed ≤ p .states
+  pub beyond : drop (p .states) (t′ .walk-list) ≡ drop (p .states) (t .walk-list)
+  pub fine : r .over ≡ false

@@ -1,0 +1,33 @@
+-- What solving a file stands on: questions 12 and 13 as tests of lengths, what a run that ended carries, and a file that
+-- may be run. What it leaves is in the model.
+use mathlib.Core.Path.{_≡_}
+use Prim.Native.Nat.{ℕ}
+use mathlib.Core.Bool.{Bool, true, false}
+use mathlib.Core.List.{List}
+use lib.Dec.{leb}
+use Rattle.model.specs.Carried.{Said, Carried, ended}
+use Rattle.model.specs.Limits.{maxBudget}
+use Rattle.model.specs.Questions.{Verdict, passes, _then_, ask, fileQuestions}
+use Rattle.model.specs.Sections.{problemOf}
+use Rattle.model.specs.Solution.{Tables, solveQuestions}
+use Rattle.reading.specs.Ready.{Ready}
+
+-- questions 12 and 13 about the tables' lengths and the budget
+unfoldable pub solveTests : ℕ → ℕ → ℕ → ℕ → ℕ → ℕ → ℕ → Verdict
+solveTests states rows values picks remembered list budget =
+    ask 12 0 (leb states values)
+    then ask 12 1 (leb states picks)
+    then ask 12 2 (leb rows remembered)
+    then ask 12 3 (leb states list)
+    then ask 13 0 (leb budget maxBudget)
+
+-- what a run that ended as solved, or as spent, carries
+abbrev pub runCarries : Bool → ℕ → ℕ → ℕ → Carried
+runCarries true rounds evaluations least = ended Said.solved rounds evaluations least
+runCarries false rounds evaluations least = ended Said.spent rounds evaluations 0
+
+-- questions 1 to 13 say yes, and the index is made
+pub record Solvable (f index : List ℕ) (budget : ℕ) (t : Tables) : Type 0 where
+  pub file-passes : fileQuestions f ≡ passes
+  pub tables-pass : solveQuestions (problemOf f) budget t ≡ passes
+  pub ready : Ready f index
