@@ -2,7 +2,6 @@
 -- Made by `places make` from answers/decimals/put_next.ans: edit that file, and not this one.
 use mathlib.Core.Path.{_∙_}
 use lib.ListN.{take}
-use Rattle.model.specs.Lines.{codes, decimal}
 use Rattle.printing.proofs.Putting.{after}
 use borrow.Author.Needs.{needs}
 use Rattle.printing.proofs.decimals.put_next.Statement.{statement}

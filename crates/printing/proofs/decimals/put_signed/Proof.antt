@@ -3,7 +3,6 @@
 use mathlib.Core.Path.{_∙_, ap}
 use mathlib.Core.List.{_++_}
 use lib.ListN.{take}
-use Rattle.model.specs.Lines.{codes, decimal}
 use Rattle.printing.proofs.Putting.{after, same}
 use Rattle.printing.proofs.Signed.{signed-below, signed-above}
 use borrow.Author.Needs.{needs}
