@@ -136,6 +136,57 @@ fn one_state_gives_up() {
     assert_eq!(plan_lines(&one_state().bytes()), "solved 2 0 1000\n0 1000 give\n");
 }
 
+/// State 0 with rows of so many seconds to the goal, and a penalty.
+fn straight(penalty: u32, rows: &[u16]) -> Draft {
+    let mut draft = Draft::new(0, 1, penalty);
+    draft.add_state();
+    rows.iter().for_each(|&seconds| draft.add_row(KIND_SECONDS, seconds, &[(1, 1_000)]));
+    draft.add_goal();
+    draft
+}
+
+/// P with another penalty.
+fn p_with_penalty(penalty: u32) -> Draft {
+    let mut draft = file_p();
+    draft.settings[2] = penalty;
+    draft
+}
+
+/// What `plan` prints of a draft.
+fn lines(draft: &Draft) -> String {
+    plan_lines(&draft.bytes())
+}
+
+/// E1: "A row whose value equals 1000 × D now beats giving up".
+#[test]
+fn a_tie_goes_to_the_ice() {
+    assert_eq!(lines(&straight(100, &[100])), "solved 2 2 100000\n0 100000 0\n");
+    assert_eq!(lines(&straight(99, &[100])), "solved 2 0 99000\n0 99000 give\n");
+}
+
+/// P's row 0 comes to 370,000 once state 1's value has risen.
+#[test]
+fn a_tie_goes_to_the_ice_after_values_rose() {
+    let taken = "solved 3 5 100000\n0 370000 0\n1 300000 2\n";
+    assert_eq!(lines(&p_with_penalty(370)), taken);
+    assert_eq!(lines(&p_with_penalty(369)), "solved 3 3 369000\n0 369000 give\n");
+    assert_eq!(lines(&p_with_penalty(100)), "solved 3 2 100000\n0 100000 give\n");
+}
+
+/// "among rows the earlier pick and then row order still win".
+#[test]
+fn ties_between_rows_go_to_the_earlier_pick_and_then_to_row_order() {
+    assert_eq!(lines(&straight(100, &[100, 100])), "solved 2 2 100000\n0 100000 0\n");
+    let mut draft = Draft::new(0, 1, 200);
+    draft.add_state();
+    draft.add_row(KIND_SECONDS, 200, &[(2, 1_000)]);
+    draft.add_row(KIND_SECONDS, 100, &[(1, 1_000)]);
+    draft.add_state();
+    draft.add_row(KIND_SECONDS, 100, &[(2, 1_000)]);
+    draft.add_goal();
+    assert_eq!(lines(&draft), "solved 3 6 100000\n0 200000 1\n1 100000 2\n");
+}
+
 /// The numbers at the limits: a row value fits in 32 bits, so question 14 is never met.
 #[test]
 fn no_row_value_outgrows_32_bits() {

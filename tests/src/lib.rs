@@ -1,4 +1,4 @@
-//! Document 01 in Rust, written from the paper and apart from the product: a reader, a solver and
+//! Documents 01 and 02 in Rust, written from the papers and apart from the product: a reader, a solver and
 //! an audit, with made-up problem files to compare the product on.
 //!
 //! The programs under `src/bin` hold the product's answers against these.
@@ -13,6 +13,7 @@ pub mod limits;
 pub mod listing;
 pub mod loads;
 pub mod made;
+pub mod plain;
 pub mod problem;
 pub mod programs;
 pub mod random;
@@ -22,5 +23,3 @@ pub mod written;
 
 #[cfg(test)]
 mod cases;
-#[cfg(test)]
-mod plain;

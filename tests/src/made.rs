@@ -27,8 +27,11 @@ pub enum Shape {
 pub const SHAPES: [Shape; 6] =
     [Shape::Scattered, Shape::Chain, Shape::Ring, Shape::Layered, Shape::Grid, Shape::Fan];
 
-/// A whole problem of any shape and size, most of them small.
+/// A whole problem of any shape and size, most of them small, some with ties.
 pub fn made(random: &mut Random) -> Draft {
+    if random.once_in(6) {
+        return tied(random);
+    }
     let shape = random.pick(&SHAPES);
     let states = any_size(random);
     let mut draft = shaped(random, shape, states);
@@ -237,6 +240,52 @@ fn sweep(problem: &Problem, table: &mut [u32]) {
         let values = problem.states[state].rows().map(|row| problem.row_value(row, table));
         table[state] = values.fold(problem.give_up_cost, u32::min);
     }
+}
+
+/// A small problem with ties on purpose. Each state lies some seconds from the goal, the start as many
+/// as the penalty has, and most rows cost just what they bring nearer. So row after row of the start
+/// is worth exactly 1000 × D, at once or when the values behind it have risen. Some rows are dearer,
+/// and some are cheap until their value rises.
+pub fn tied(random: &mut Random) -> Draft {
+    let penalty = random.between(2, 200);
+    let goal = 1 + random.below(8);
+    let mut seconds: Vec<u32> = (0..goal).map(|_| random.between(1, penalty)).collect();
+    seconds[0] = penalty;
+    seconds.push(0);
+    let mut draft = Draft::new(0, any_tolerance(random), penalty);
+    for state in 0..goal {
+        draft.add_state();
+        for _ in 0..1 + random.below(4) {
+            add_tied_row(random, &mut draft, &seconds, state);
+        }
+    }
+    draft.add_goal();
+    estimate(random, &mut draft);
+    draft
+}
+
+/// Adds a row that brings the last state, which is `state`, just as much nearer to the goal as it
+/// costs; or a dearer one; or one that leads back and is cheap until its value rises.
+fn add_tied_row(random: &mut Random, draft: &mut Draft, seconds: &[u32], state: usize) {
+    let nearer: Vec<usize> =
+        (0..seconds.len()).filter(|&other| seconds[other] < seconds[state]).collect();
+    let (one, two) = (random.pick(&nearer), random.pick(&nearer));
+    let (half, all) = (WEIGHT_TOTAL as u16 / 2, WEIGHT_TOTAL as u16);
+    let cost = seconds[state] - seconds[one];
+    let dearer = cost + random.between(1, 20);
+    let mean = (seconds[one] + seconds[two]) / 2;
+    let (cost, outcomes) = match random.below(6) {
+        0 => (random.between(1, cost), vec![(state, all)]),
+        1 => (dearer, vec![(one, all)]),
+        2 if (seconds[one] + seconds[two]).is_multiple_of(2) => {
+            (seconds[state] - mean, vec![(one, half), (two, half)])
+        }
+        3 => (cost, vec![(one, half), (one, half)]),
+        _ => (cost, vec![(one, all)]),
+    };
+    let outcomes: Vec<(u16, u16)> =
+        outcomes.into_iter().map(|(successor, weight)| (successor as u16, weight)).collect();
+    draft.add_row(KIND_SECONDS, cost as u16, &outcomes);
 }
 
 /// A file at all three limits: 1,024 states, 4,096 rows, 8,192 outcomes, two to a row. With a goal

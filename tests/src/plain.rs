@@ -1,11 +1,43 @@
-//! The rounds of document 01 once more, as plainly as the paper has them and with no thought of
-//! speed, to hold the tuned solver against.
+//! The rounds of documents 01 and 02 once more, as plainly as the papers have them and with no
+//! thought of speed, to hold the tuned solver against, and to count the ties that a run meets.
 
 use crate::limits::*;
-use crate::made::{at_limits, made};
 use crate::problem::Problem;
-use crate::random::Random;
-use crate::solver::{solve, Answer, OwnedTables};
+use crate::solver::{Answer, OwnedTables};
+
+/// The ties that a run met, each kind counted.
+#[derive(Clone, Copy, Debug, Default)]
+pub struct Ties {
+    /// Rows at exactly 1000 × D, evaluated while giving up was best.
+    pub met: u64,
+    /// Of these, rows that were worth so much under H.
+    pub at_first: u64,
+    /// Of these, rows that rose to it.
+    pub risen: u64,
+    /// Of these, rows picked before.
+    pub at_pick: u64,
+    /// Of these, other rows.
+    pub at_others: u64,
+    /// Of these, rows of a state that has several at exactly 1000 × D.
+    pub of_several: u64,
+    /// Backups whose pick stayed although an earlier row was worth the same.
+    pub kept: u64,
+}
+
+impl Ties {
+    /// Counts a row that was evaluated at exactly 1000 × D while giving up was best.
+    fn meet(&mut self, problem: &Problem, values: &[u32], state: usize, row: usize, before: u16) {
+        let tied = |&row: &usize| problem.row_value(row, values) == problem.give_up_cost;
+        let first = problem.first_values[row] == problem.give_up_cost;
+        let picked = usize::from(before) == row;
+        self.met += 1;
+        self.at_first += u64::from(first);
+        self.risen += u64::from(!first);
+        self.at_pick += u64::from(picked);
+        self.at_others += u64::from(!picked);
+        self.of_several += u64::from(problem.states[state].rows().filter(tied).count() > 1);
+    }
+}
 
 /// Visiting a state: marks it, visits its picked row's outcomes in order, and lists it after them.
 fn visit(
@@ -41,20 +73,45 @@ fn taken_in_order(problem: &Problem, before: u16, state: usize) -> Vec<usize> {
 }
 
 /// One backup. Gives the evaluations made, and whether value and pick are as before.
-fn back_up(problem: &Problem, tables: &mut OwnedTables, state: usize) -> (u64, bool) {
+fn back_up(
+    problem: &Problem,
+    tables: &mut OwnedTables,
+    ties: &mut Ties,
+    state: usize,
+) -> (u64, bool) {
     let before = tables.picks[state];
-    let (mut best, mut pick, mut evaluations) = (problem.give_up_cost, GIVE_UP, 0);
+    let (mut best, mut pick, mut evaluations) = (problem.give_up_cost, None, 0);
     for row in taken_in_order(problem, before, state) {
-        if tables.remembered[row] >= best {
+        let skipped = match pick {
+            // "A row is skipped while giving up is best only if its remembered value is above
+            // 1000 × D."
+            None => tables.remembered[row] > problem.give_up_cost,
+            // "A row whose remembered value is at least best is skipped."
+            Some(_) => tables.remembered[row] >= best,
+        };
+        if skipped {
             continue;
         }
         let value = problem.row_value(row, &tables.values);
         evaluations += 1;
         tables.remembered[row] = value;
-        if value < best {
-            (best, pick) = (value, row as u16);
+        let wins = match pick {
+            // "A row whose value equals 1000 × D now beats giving up"
+            None => value <= problem.give_up_cost,
+            // "among rows the earlier pick and then row order still win"
+            Some(_) => value < best,
+        };
+        if pick.is_none() && value == problem.give_up_cost {
+            ties.meet(problem, &tables.values, state, row, before);
+        }
+        if wins {
+            (best, pick) = (value, Some(row as u16));
         }
     }
+    let pick = pick.unwrap_or(GIVE_UP);
+    let earlier = problem.states[state].first_row.into()..usize::from(before);
+    let same = |row| problem.row_value(row, &tables.values) == best;
+    ties.kept += u64::from(pick == before && before < NO_PICK && earlier.into_iter().any(same));
     tables.picks[state] = pick;
     let rises = i64::from(best) - i64::from(tables.values[state]) >= i64::from(problem.tolerance);
     if rises {
@@ -63,8 +120,13 @@ fn back_up(problem: &Problem, tables: &mut OwnedTables, state: usize) -> (u64, b
     (evaluations, !rises && pick == before)
 }
 
-/// The run as the paper tells it.
-fn plain_run(problem: &Problem, budget: u64, tables: &mut OwnedTables) -> Answer {
+/// The run as the papers tell it.
+pub fn plain_run(
+    problem: &Problem,
+    budget: u64,
+    tables: &mut OwnedTables,
+    ties: &mut Ties,
+) -> Answer {
     let states = problem.states.len();
     tables.values = problem.estimates.clone();
     tables.picks = vec![NO_PICK; states];
@@ -79,7 +141,7 @@ fn plain_run(problem: &Problem, budget: u64, tables: &mut OwnedTables) -> Answer
         let mut quiet = true;
         for (at, &state) in list.iter().enumerate() {
             tables.walk[at] = state as u16;
-            let (made, same) = back_up(problem, tables, state);
+            let (made, same) = back_up(problem, tables, ties, state);
             evaluations += made;
             quiet &= same;
         }
@@ -95,26 +157,34 @@ fn plain_run(problem: &Problem, budget: u64, tables: &mut OwnedTables) -> Answer
     Answer::Spent { rounds: budget, evaluations }
 }
 
-/// Runs both at a budget and holds answers and tables against each other.
-fn compare(problem: &Problem, budget: u64) {
-    let (mut tuned, mut plain) = (OwnedTables::new(problem), OwnedTables::new(problem));
-    let answer = solve(problem, budget, tuned.lend()).answer;
-    assert_eq!(answer, plain_run(problem, budget, &mut plain));
-    assert_eq!(tuned, plain);
-}
+#[cfg(test)]
+mod tests {
+    use super::*;
+    use crate::made::{at_limits, made};
+    use crate::random::Random;
+    use crate::solver::solve;
 
-#[test]
-fn tuned_and_plain_runs_are_the_same() {
-    let mut random = Random::new(5);
-    for _ in 0..500 {
-        let problem = Problem::read(&made(&mut random).bytes()).expect("whole");
-        [0, 1, 2, 3, 7, 400].iter().for_each(|&budget| compare(&problem, budget));
+    /// Runs both at a budget and holds answers and tables against each other.
+    fn compare(problem: &Problem, budget: u64) {
+        let (mut tuned, mut plain) = (OwnedTables::new(problem), OwnedTables::new(problem));
+        let answer = solve(problem, budget, tuned.lend()).answer;
+        assert_eq!(answer, plain_run(problem, budget, &mut plain, &mut Ties::default()));
+        assert_eq!(tuned, plain);
     }
-}
 
-#[test]
-fn tuned_and_plain_runs_are_the_same_at_the_limits() {
-    let mut random = Random::new(6);
-    let file = at_limits(&mut random, true, 5_000).bytes();
-    compare(&Problem::read(&file).expect("whole"), 100);
+    #[test]
+    fn tuned_and_plain_runs_are_the_same() {
+        let mut random = Random::new(5);
+        for _ in 0..500 {
+            let problem = Problem::read(&made(&mut random).bytes()).expect("whole");
+            [0, 1, 2, 3, 7, 400].iter().for_each(|&budget| compare(&problem, budget));
+        }
+    }
+
+    #[test]
+    fn tuned_and_plain_runs_are_the_same_at_the_limits() {
+        let mut random = Random::new(6);
+        let file = at_limits(&mut random, true, 5_000).bytes();
+        compare(&Problem::read(&file).expect("whole"), 100);
+    }
 }

@@ -181,8 +181,8 @@ impl<'a> Machine<'a> {
     /// then the others in row order. If best − V(s) is at least e, V(s) becomes best." Says whether
     /// neither the value nor the pick changed.
     ///
-    /// The row picked before remembers at least best once it was taken, so it is skipped when its
-    /// turn in row order comes.
+    /// The row picked before either became best or costs more than what is best, once it was taken,
+    /// so it is skipped when its turn in row order comes.
     fn back_up(&mut self, state: usize) -> bool {
         let rows = self.problem.states[state].rows();
         let before = self.picks[state];
@@ -203,16 +203,28 @@ impl<'a> Machine<'a> {
     }
 
     /// "A row whose remembered value is at least best is skipped. Otherwise it is evaluated:
-    /// counted, its value remembered, and picked, becoming best, if it is below best."
+    /// counted, its value remembered, and picked, becoming best, if it is below best." And since E1:
+    /// "A row whose value equals 1000 × D now beats giving up; among rows the earlier pick and then
+    /// row order still win. A row is skipped while giving up is best only if its remembered value is
+    /// above 1000 × D."
     #[inline(always)]
     fn consider(&mut self, row: usize, choice: &mut Choice) {
-        if self.remembered[row] >= choice.best {
+        let remembered = self.remembered[row];
+        let skipped = match choice.pick {
+            GIVE_UP => remembered > self.problem.give_up_cost,
+            _ => remembered >= choice.best,
+        };
+        if skipped {
             return;
         }
         let value = self.problem.row_value(row, self.values);
         self.remembered[row] = value;
         self.evaluations += 1;
-        if value < choice.best {
+        let wins = match choice.pick {
+            GIVE_UP => value <= self.problem.give_up_cost,
+            _ => value < choice.best,
+        };
+        if wins {
             *choice = Choice { best: value, pick: row as u16 };
         }
     }

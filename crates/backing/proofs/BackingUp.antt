@@ -1,6 +1,6 @@
 -- Laws of the backups of a round, one for each event of the code: a backup done, and the loop along the walk list, in which the
 -- backups that are left give the same as all. Every backup keeps the tables sound, so that the next one may be made.
-use mathlib.Core.Path.{_≡_, refl, _∙_, ap}
+use mathlib.Core.Path.{_≡_, refl, sym, _∙_, ap}
 use Prim.Native.Nat.{ℕ, zero, suc, _+_, _≤_, _<_}
 use native.Mathlib.Numerals.{add-one}
 use native.Mathlib.Omega.{arith}
@@ -18,7 +18,8 @@ use Rattle.model.specs.Rounds.{Found, Machine, scan, raiseOn, settle, scanOf, b
 use Rattle.guarantee.specs.Sound.{Sound, evaluation-fits, backup-sound}
 use Rattle.guarantee.specs.Backups.{Open}
 use Rattle.guarantee.specs.Evaluations.{backups-count}
-use Rattle.backing.specs.Backable.{countBound, found, machine, Scannable, Backable, Listed}
+use Rattle.guarantee.specs.Choosing.{pickOf, threshold-giving-up}
+use Rattle.backing.specs.Backable.{countBound, found, Going, machine, Scannable, Backable, Listed}
 
 -- in sound tables every row value fits
 pub backable-scannable
@@ -58,6 +59,10 @@ module _ {f index values picks remembered : List ℕ} (h : Backable f index valu
       → machine values′ (set picks s pick) remembered′ l count′ moved′ ≡ backup p e s (machine values picks remembered l count moved)
   unfolding backup settle
   backup-done e moved l done raised stored same = rw (← done) (rw (stored, same, raised) refl)
+
+-- a scan goes on from giving up
+pub given-going : (give : ℕ) → Going give (give + 1) giveUp false
+given-going give = record { fine = refl; tie = sym (threshold-giving-up (pickOf give giveUp) refl) }
 
 -- an entry of a list is one of the list
 in-at : (l : List ℕ) (i : ℕ) → i < length l → In (getD l i 0) l

@@ -4,7 +4,7 @@ use mathlib.Core.Path.{_≡_, refl, sym, _∙_, ap, subst}
 use Prim.Native.Nat.{ℕ, suc, _+_, _-_, _≤_, _<_}
 use native.Mathlib.Numerals.{add-one}
 use native.Mathlib.Omega.{arith}
-use mathlib.Core.Bool.{Bool, false, _&&_, not}
+use mathlib.Core.Bool.{Bool, true, false, _&&_, not}
 use lib.Dec.{leb, ltb, eqb}
 use mathlib.Core.List.{List}
 use lib.ListN.{getD, length}
@@ -13,10 +13,22 @@ use Rattle.model.specs.Limits.{maxRows}
 use Rattle.model.specs.Problem.{Problem, endRow}
 use Rattle.model.specs.Sections.{problemOf}
 use Rattle.model.specs.Value.{rowValue, byState}
-use Rattle.model.specs.Rounds.{Found, evaluate, considerOn, consider, considerIf, scanFrom, scan}
+use Rattle.model.specs.Rounds.{Found, beats, evaluate, skipped, considerOn, consider, considerIf, scanFrom, scan}
 use Rattle.guarantee.specs.Evaluations.{from-count, scan-count}
 use Rattle.reading.specs.Ready.{Ready}
-use Rattle.backing.specs.Backable.{countBound, Scannable}
+use Rattle.guarantee.specs.Choosing.{pickOf, threshold-row, beats-below}
+use Rattle.backing.specs.Backable.{countBound, Going, Scannable}
+
+-- the code's test is the model's, and then the scan goes on from where it was, or from row r of value q
+module _ {best below pick : ℕ} {over : Bool} (h : Going best below pick over) where
+  pub going-beats : (x : ℕ) → beats x best pick ≡ ltb x below
+  going-beats x = beats-below (pickOf best pick) x ∙ ap (ltb x) (sym (h .tie))
+
+  pub going-still : Going best below pick false
+  going-still = record { fine = refl; tie = h .tie }
+
+pub going-picked : (q r : ℕ) → r < maxRows → Going q q r false
+going-picked q r l = record { fine = refl; tie = sym (threshold-row (pickOf q r) (omega arith)) }
 
 -- a row, and the pick before, in a scan under the values as they are
 module _ {f index values remembered : List ℕ} (h : Scannable f index values remembered) where
@@ -26,15 +38,14 @@ module _ {f index values remembered : List ℕ} (h : Scannable f index values re
   abbrev v : ℕ → ℕ
   v = byState values
 
-  pub row-skipped : (r : ℕ) (a : Found) → a .best ≤ getD (a .remembered) r 0 → a ≡ consider p v r a
+  pub row-skipped : (r : ℕ) (a : Found) → skipped r a ≡ true → a ≡ consider p v r a
   unfolding consider considerOn
-  row-skipped r a l = rw (le-leb _ _ l) refl
+  row-skipped r a h = rw h refl
 
   pub row-evaluated
-      : (r q : ℕ) (a : Found) {b : Found} → getD (a .remembered) r 0 < a .best → q ≡ rowValue p v r → b ≡ evaluate q r a
-      → b ≡ consider p v r a
+      : (r q : ℕ) (a : Found) {b : Found} → skipped r a ≡ false → q ≡ rowValue p v r → b ≡ evaluate q r a → b ≡ consider p v r a
   unfolding consider considerOn
-  row-evaluated r q a l e same = rw (lt-leb _ _ l) (rw (← e) same)
+  row-evaluated r q a h e same = rw (h, ← e) same
 
   -- the pick before, where it is between `first` and `end`
   module _ (first end prev : ℕ) (a : Found) where
@@ -101,16 +112,16 @@ still-scannable e h =
     record { ready = h .ready; values-long = h .values-long; remembered-long = omega (arith, e, h .remembered-long); fits = h .fits }
 
 -- the loop over the others in row order: what is left of the scan, from row r up to `end`, gives w
-pub record ScanLeft (f index values : List ℕ) (prev end : ℕ) (w : Found) (a : Found) (over : Bool) (r : ℕ) : Type 0 where
+pub record ScanLeft (f index values : List ℕ) (prev end : ℕ) (w a : Found) (below : ℕ) (over : Bool) (r : ℕ) : Type 0 where
   pub scannable : Scannable f index values (a .remembered)
   pub within : r ≤ end
   pub rows : end ≤ problemOf f .rows
   pub left : scanFrom (problemOf f) (byState values) prev r (end - r) a ≡ w
   pub room : w .count < countBound
-  pub fine : over ≡ false
+  pub going : Going (a .best) below (a .pick) over
 
-module _ {f index values : List ℕ} {prev end : ℕ} {w a : Found} {over : Bool} {r : ℕ}
-    (h : ScanLeft f index values prev end w a over r) where
+module _ {f index values : List ℕ} {prev end : ℕ} {w a : Found} {below : ℕ} {over : Bool} {r : ℕ}
+    (h : ScanLeft f index values prev end w a below over r) where
   next-row : (c : Found) → r < end → c ≡ considerIf (not (eqb r prev)) (problemOf f) (byState values) r a → scanFrom (problemOf f) (byState values) prev (r + 1) (end - (r + 1)) c ≡ w
   unfolding scanFrom
   next-row c l e =
@@ -118,7 +129,7 @@ module _ {f index values : List ℕ} {prev end : ℕ} {w a : Found} {over : Bool
       let s : r + 1 ≡ suc r = omega arith in
       rw e (subst (λ x. scanFrom (problemOf f) (byState values) prev x (end - (r + 1)) (considerIf (not (eqb r prev)) (problemOf f) (byState values) r a) ≡ w) (sym s) (rw k at (h .left)))
 
-  pub left-passed : r < end → r ≡ prev → ScanLeft f index values prev end w a over (r + 1)
+  pub left-passed : r < end → r ≡ prev → ScanLeft f index values prev end w a below over (r + 1)
   unfolding considerIf
   left-passed l e =
       record {
@@ -127,21 +138,22 @@ module _ {f index values : List ℕ} {prev end : ℕ} {w a : Found} {over : Bool
         rows = h .rows;
         left = next-row a l (rw (eq-eqb r prev e) refl);
         room = h .room;
-        fine = h .fine;
+        going = h .going;
       }
 
   pub left-taken
-      : {b : Found} {over′ : Bool} → r < end → (r ≡ prev → ⊥) → b ≡ consider (problemOf f) (byState values) r a → over′ ≡ false
-      → length (b .remembered) ≡ length (a .remembered) → ScanLeft f index values prev end w b over′ (r + 1)
+      : {b : Found} {below′ : ℕ} {over′ : Bool} → r < end → (r ≡ prev → ⊥) → b ≡ consider (problemOf f) (byState values) r a
+      → Going (b .best) below′ (b .pick) over′ → length (b .remembered) ≡ length (a .remembered)
+      → ScanLeft f index values prev end w b below′ over′ (r + 1)
   unfolding considerIf
-  left-taken {b} l d e fine same =
+  left-taken {b} l d e going same =
       record {
         scannable = still-scannable same (h .scannable);
         within = omega arith;
         rows = h .rows;
         left = next-row b l (rw (ne-eqb r prev d) e);
         room = h .room;
-        fine = fine;
+        going = going;
       }
 
   -- what is counted so far is at most what is counted in the end

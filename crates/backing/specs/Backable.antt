@@ -1,7 +1,8 @@
 -- What a scan and a backup stand on, and how what the code holds is read as the model's: a scan so far, the machine.
 -- One record for what each is asked.
 use Prim.Native.Nat.{ℕ, _≤_, _<_}
-use mathlib.Core.Bool.{Bool}
+use mathlib.Core.Path.{_≡_}
+use mathlib.Core.Bool.{Bool, false}
 use mathlib.Core.List.{List}
 use lib.ListN.{length, take}
 use Rattle.model.specs.Limits.{valueBound}
@@ -10,6 +11,7 @@ use Rattle.model.specs.Value.{rowValue, byState}
 use Rattle.model.specs.Walk.{In}
 use Rattle.model.specs.Rounds.{Found, Machine, consider, considerIf, scanFrom, scan}
 use Rattle.guarantee.specs.WellFormed.{WellFormed}
+use Rattle.guarantee.specs.Choosing.{pickOf, threshold}
 use Rattle.guarantee.specs.Sound.{SoundTables}
 use Rattle.guarantee.specs.Backups.{Open}
 use Rattle.reading.specs.Ready.{Ready}
@@ -21,6 +23,11 @@ countBound = 9223372036854775808
 -- a scan so far, with what each row remembers beside it
 abbrev pub found : ℕ → ℕ → ℕ → List ℕ → Found
 found best pick count remembered = record { best = best; pick = pick; count = count; remembered = remembered }
+
+-- a scan that may go on: no value was too large, and what is below `below` beats what is best so far
+pub record Going (best below pick : ℕ) (over : Bool) : Type 0 where
+  pub fine : over ≡ false
+  pub tie : below ≡ threshold (pickOf best pick)
 
 -- the tables, the walk list, the evaluations so far, and whether something moved
 abbrev pub machine : List ℕ → List ℕ → List ℕ → List ℕ → ℕ → Bool → Machine

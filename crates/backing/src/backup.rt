@@ -82,8 +82,10 @@ fn backup(
 {
     let prev = picks[s];
     let before = prev as usize;
+    // giving up is best, and what equals it beats it
     let start = Found {
         best: give,
+        below: give + 1,
         pick: GIVE_UP,
         count: t.count,
         over: false,

@@ -1,11 +1,11 @@
 // The rows of one backup: the one picked before first, then the others in row order.
-// A row that remembers at least best would not be picked, so that it is not evaluated.
+// A row whose remembered value does not beat what is best so far would not be picked, so that it is not evaluated.
 use crate::LOG;
 use model::VALUE_BOUND;
 use reading::index::INDEX;
 use reading::value::row_value;
 ghost use mathlib.Core.Path.{_≡_};
-ghost use mathlib.Core.Bool.{true, false, _&&_};
+ghost use mathlib.Core.Bool.{true, _&&_};
 ghost use mathlib.Core.List.{List};
 ghost use Prim.Native.Nat.{ℕ, _+_, _-_, _≤_, _<_};
 ghost use lib.Dec.{leb, ltb};
@@ -13,14 +13,16 @@ ghost use lib.ListN.{length, getD, set};
 ghost use Rattle.model.specs.Limits.{maxRows};
 ghost use Rattle.model.specs.Sections.{problemOf};
 ghost use Rattle.model.specs.Rounds.{evaluate};
-ghost use Rattle.backing.specs.Backable.{countBound, found, Scannable};
+ghost use Rattle.backing.specs.Backable.{countBound, found, Going, Scannable};
 ghost use Rattle.backing.specs.Backable.{considerUnder, considerIfUnder, scanFromUnder, scanUnder};
 ghost use Rattle.backing.specs.Log.{noted, undone};
 
-// A scan so far: the least value, the pick, and the evaluations counted. Where the value of a row does not fit in 32 bits `over`
-// is set, the pick is that row, and best is 0, so that every later row is skipped.
+// A scan so far: what is best, what a value must be below to beat it, the pick, and the evaluations counted. Once a row is best
+// `below` is best; while giving up is best it is one more, so that a tie goes to the row. Where the value of a row does not fit in
+// 32 bits `over` is set, the pick is that row, and nothing is below 0, so that every later row is skipped.
 pub struct Found {
     pub best: u32,
+    pub below: u32,
     pub pick: u16,
     pub count: u64,
     pub over: bool,
@@ -39,26 +41,35 @@ fn note(log: &mut [u32; LOG], count: u64, r: usize, old: u32)
 // Question 14: the value of row r does not fit.
 fn too_large(r: usize, a: Found) -> Found
     requires { ⌜ r < maxRows ⌝ }
-    ensures { λ b. ⌜ (b .best ≡ 0) × (b .pick ≡ r) × (b .count ≡ a .count) × (b .over ≡ true) ⌝ }
+    ensures { λ b. ⌜ (b .best ≡ 0) × (b .below ≡ 0) × (b .pick ≡ r) × (b .count ≡ a .count) × (b .over ≡ true) ⌝ }
 {
     Found {
         best: 0,
+        below: 0,
         pick: r as u16,
         count: a.count,
         over: true,
     }
 }
 
-// Row r has value q: it is counted, and picked if q is below best.
+// Whether x beats what is best so far: the test by which a row is skipped, and by which it is picked.
+fn beats(x: u32, below: u32) -> bool
+    ensures { λ r. ⌜ r ≡ ltb x below ⌝ }
+{
+    x < below
+}
+
+// Row r has value q: it is counted, and picked if q beats what is best so far.
 fn evaluated(q: u32, r: usize, a: Found) -> Found
-    requires { ⌜ (r < maxRows) × (a .count < countBound) ⌝ }
+    requires { ⌜ (r < maxRows) × (a .count < countBound) × Going (a .best) (a .below) (a .pick) (a .over) ⌝ }
     ensures { λ b.
         ⌜ ((l : List ℕ) → found (b .best) (b .pick) (b .count) (set l r q) ≡ evaluate q r (found (a .best) (a .pick) (a .count) l))
-        × (b .over ≡ false) ⌝ }
+        × Going (b .best) (b .below) (b .pick) (b .over) ⌝ }
 {
-    if q < a.best {
+    if beats(q, a.below) {
         Found {
             best: q,
+            below: q,
             pick: r as u16,
             count: a.count + 1,
             over: false,
@@ -66,6 +77,7 @@ fn evaluated(q: u32, r: usize, a: Found) -> Found
     } else {
         Found {
             best: a.best,
+            below: a.below,
             pick: a.pick,
             count: a.count + 1,
             over: false,
@@ -73,7 +85,7 @@ fn evaluated(q: u32, r: usize, a: Found) -> Found
     }
 }
 
-// Row r is skipped where it remembers at least best; otherwise it is evaluated, and its value remembered.
+// Row r is skipped unless what it remembers beats what is best so far; otherwise it is evaluated, and its value remembered.
 fn consider(
     file: &[u8],
     index: &[u32; INDEX],
@@ -84,16 +96,16 @@ fn consider(
     a: Found,
 ) -> Found
     requires { ⌜ Scannable (now file) (now index) (now values) (now remembered)
-        × (r < problemOf (now file) .rows) × (a .count < countBound) × (a .over ≡ false) ⌝ }
+        × (r < problemOf (now file) .rows) × (a .count < countBound) × Going (a .best) (a .below) (a .pick) (a .over) ⌝ }
     ensures { λ b.
         ⌜ (found (b .best) (b .pick) (b .count) (now (remembered .exit))
         ≡ considerUnder
         (now (file .entry)) (now (values .entry)) r
         (found (a .best) (a .pick) (a .count) (now (remembered .entry))))
-        × (b .over ≡ false) ⌝ }
+        × Going (b .best) (b .below) (b .pick) (b .over) ⌝ }
 {
     let old = remembered[r];
-    if a.best <= old {
+    if !beats(old, a.below) {
         return a;
     }
     let q = row_value(file, index, values, r);
@@ -119,13 +131,13 @@ fn picked(
     a: Found,
 ) -> Found
     requires { ⌜ Scannable (now file) (now index) (now values) (now remembered)
-        × (end ≤ problemOf (now file) .rows) × (a .count < countBound) × (a .over ≡ false) ⌝ }
+        × (end ≤ problemOf (now file) .rows) × (a .count < countBound) × Going (a .best) (a .below) (a .pick) (a .over) ⌝ }
     ensures { λ b.
         ⌜ (found (b .best) (b .pick) (b .count) (now (remembered .exit))
         ≡ considerIfUnder
         (leb first prev && ltb prev end) (now (file .entry)) (now (values .entry)) prev
         (found (a .best) (a .pick) (a .count) (now (remembered .entry))))
-        × (b .over ≡ false) ⌝ }
+        × Going (b .best) (b .below) (b .pick) (b .over) ⌝ }
 {
     if prev < first {
         return a;
@@ -153,13 +165,13 @@ fn others(
         × (scanFromUnder
         (now file) (now values) prev first (end - first)
         (found (a .best) (a .pick) (a .count) (now remembered)) .count < countBound)
-        × (a .over ≡ false) ⌝ }
+        × Going (a .best) (a .below) (a .pick) (a .over) ⌝ }
     ensures { λ b.
         ⌜ (found (b .best) (b .pick) (b .count) (now (remembered .exit))
         ≡ scanFromUnder
         (now (file .entry)) (now (values .entry)) prev first (end - first)
         (found (a .best) (a .pick) (a .count) (now (remembered .entry))))
-        × (b .over ≡ false) ⌝ }
+        × Going (b .best) (b .below) (b .pick) (b .over) ⌝ }
 {
     let mut b = a;
     let mut next = first;
@@ -189,13 +201,13 @@ pub fn scan(
         × (scanUnder
         (now file) (now values) s prev
         (found (a .best) (a .pick) (a .count) (now remembered)) .count < countBound)
-        × (a .over ≡ false) ⌝ }
+        × Going (a .best) (a .below) (a .pick) (a .over) ⌝ }
     ensures { λ b.
         ⌜ (found (b .best) (b .pick) (b .count) (now (remembered .exit))
         ≡ scanUnder
         (now (file .entry)) (now (values .entry)) s prev
         (found (a .best) (a .pick) (a .count) (now (remembered .entry))))
-        × (b .over ≡ false) ⌝ }
+        × Going (b .best) (b .below) (b .pick) (b .over) ⌝ }
 {
     let first = index[s] as usize;
     let end = index[s + 1] as usize;

@@ -8,6 +8,7 @@ use mathlib.Core.Logic.{_⊎_, inl, inr}
 use Rattle.model.specs.Problem.{Problem, giveUpCost, endRow}
 use Rattle.model.specs.Value.{rowValue}
 use Rattle.model.specs.Rounds.{leastValue, bellman}
+use Rattle.guarantee.specs.WellFormed.{WellFormed}
 use Rattle.guarantee.specs.Rows.{own-low, own-high}
 use Rattle.guarantee.specs.Choosing.{Chosen, choice, Landed, at-giving-up, at-row, choice-high, choice-under, choice-landed}
 
@@ -54,7 +55,7 @@ module _ (p : Problem) (v : ℕ → ℕ) where
     landed-bellman c (at-row own b less) = omega (arith, bellman-under (c .pick) (own-low p s (c .pick) own) (own-high p s (c .pick) own))
 
     -- whatever was picked before, a choice's best is the Bellman backup
-    pub choice-bellman : (prev : ℕ) → choice p v s prev .best ≡ bellman p v s
-    choice-bellman prev =
-        le-antisymm (bellman-greatest (choice p v s prev .best) (choice-high p v s prev) (choice-under p v s prev))
+    pub choice-bellman : WellFormed p → s < p .states → (prev : ℕ) → choice p v s prev .best ≡ bellman p v s
+    choice-bellman formed state prev =
+        le-antisymm (bellman-greatest (choice p v s prev .best) (choice-high p v s prev) (choice-under p formed v s state prev))
         (landed-bellman (choice p v s prev) (choice-landed p v s prev))

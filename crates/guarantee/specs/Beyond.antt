@@ -5,14 +5,15 @@ use Prim.Native.Nat.{ℕ, zero, suc, _+_, _-_, _≤_, _<_}
 use native.Mathlib.Omega.{arith}
 use mathlib.Core.Bool.{Bool, true, false, not}
 use mathlib.Core.List.{List, _++_}
-use lib.Dec.{leb, ltb, eqb}
+use lib.Dec.{eqb}
 use lib.ListN.{getD, length, drop, replicate, length-replicate}
 use lib.Seq.{drop-set-lt, drop-append-add, drop-at}
 use Rattle.model.specs.Limits.{listEnd}
 use Rattle.model.specs.Problem.{Problem, ownRow}
 use Rattle.model.specs.Value.{rowValue, byState}
 use Rattle.model.specs.Sections.{problemOf}
-use Rattle.model.specs.Rounds.{Found, Machine, Ending, evaluateOn, considerOn, consider, considerIf, scanFrom, scan, scanStart, scanOf}
+use Rattle.model.specs.Rounds.{Found, Machine, Ending, beats, evaluateOn, skipped, considerOn, consider, considerIf}
+use Rattle.model.specs.Rounds.{scanFrom, scan, scanStart, scanOf}
 use Rattle.model.specs.Rounds.{raiseOn, rises, settle, backup, walked, fillTo, machineStart, runOf, listTable}
 use Rattle.model.specs.Solution.{fine, Tables, tablesOf, solutionOf, solution}
 use Rattle.guarantee.specs.WellFormed.{WellFormed, well-formed}
@@ -64,11 +65,11 @@ module _ (p : Problem) (v : ℕ → ℕ) (n : ℕ) where
 
   consider-drop : (r : ℕ) (a : Found) → r < n → drop n (consider p v r a .remembered) ≡ drop n (a .remembered)
   unfolding consider considerOn
-  consider-drop r a h = go (leb (a .best) (getD (a .remembered) r 0))
+  consider-drop r a h = go (skipped r a)
     where
       go : (b : Bool) → drop n (considerOn b p v r a .remembered) ≡ drop n (a .remembered)
       go true = refl
-      go false = evaluate-drop (ltb (rowValue p v r) (a .best)) (rowValue p v r) r a h
+      go false = evaluate-drop (beats (rowValue p v r) (a .best) (a .pick)) (rowValue p v r) r a h
 
   if-drop : (b : Bool) (r : ℕ) (a : Found) → (b ≡ true → r < n) → drop n (considerIf b p v r a .remembered) ≡ drop n (a .remembered)
   unfolding considerIf

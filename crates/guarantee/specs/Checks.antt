@@ -5,13 +5,13 @@ use Prim.Native.Nat.{ℕ, zero, suc, _+_, _≤_, _<_}
 use native.Mathlib.Omega.{arith}
 use mathlib.Core.Bool.{Bool, true, false, not}
 use mathlib.Core.List.{List, [], _∷_}
-use lib.Dec.{leb, eqb}
+use lib.Dec.{eqb}
 use lib.ListN.{getD}
 use borrow.Author.Tests.{lt-ltb}
 use Rattle.model.specs.Problem.{Problem, ownRow}
 use Rattle.model.specs.Value.{byState}
 use Rattle.model.specs.Walk.{In, here, there, walk}
-use Rattle.model.specs.Rounds.{Found, Machine, considerOn, consider, considerIf, scanFrom, scan, scanStart, scanOf}
+use Rattle.model.specs.Rounds.{Found, Machine, skipped, considerOn, consider, considerIf, scanFrom, scan, scanStart, scanOf}
 use Rattle.model.specs.Rounds.{backup, backups, walked, round, runFrom}
 use Rattle.model.specs.Solution.{fine, checkedEvaluate, checkedConsiderOn, checkedConsider, checkedConsiderIf, checkedScanFrom}
 use Rattle.model.specs.Solution.{checkedScan, checkedBackup, checkedBackups, checkedRound, checkedRunFrom}
@@ -26,7 +26,7 @@ module _ (p : Problem) (formed : WellFormed p) where
   module _ (m : Machine) (sound : Sound p m) where
     pub checked-consider : (r : ℕ) (a : Found) → r < p .rows → checkedConsider p r m a ≡ fine (consider p (byState (m .values)) r a)
     unfolding checkedConsider checkedConsiderOn checkedEvaluate consider considerOn
-    checked-consider r a l = go (leb (a .best) (getD (a .remembered) r 0))
+    checked-consider r a l = go (skipped r a)
       where
         go : (b : Bool) → checkedConsiderOn b p r m a ≡ fine (considerOn b p (byState (m .values)) r a)
         go true = refl

@@ -6,13 +6,13 @@ use native.Mathlib.Omega.{arith}
 use native.Mathlib.Decide.{ℕ-discrete}
 use mathlib.Core.Bool.{Bool, true, false, not}
 use mathlib.Core.List.{List, [], _∷_}
-use lib.Dec.{leb, ltb, eqb}
+use lib.Dec.{eqb}
 use lib.ListN.{getD}
 use borrow.Author.Tests.{eq-eqb}
 use Rattle.model.specs.Problem.{Problem, ownRow}
 use Rattle.model.specs.Value.{rowValue, byState}
 use Rattle.model.specs.Walk.{walk}
-use Rattle.model.specs.Rounds.{Found, Machine, evaluateOn, considerOn, consider, considerIf, scanFrom, scan}
+use Rattle.model.specs.Rounds.{Found, Machine, beats, skipped, evaluateOn, considerOn, consider, considerIf, scanFrom, scan}
 use Rattle.model.specs.Rounds.{scanStart, settle, backup, backups, walked, round}
 use Rattle.guarantee.specs.WellFormed.{WellFormed}
 use Rattle.guarantee.specs.Rows.{own-low, own-high}
@@ -32,11 +32,11 @@ module _ (p : Problem) (v : ℕ → ℕ) where
 
   pub consider-count : (r : ℕ) (a : Found) → Counted (a .count) (consider p v r a .count) 1
   unfolding consider considerOn
-  consider-count r a = go (leb (a .best) (getD (a .remembered) r 0))
+  consider-count r a = go (skipped r a)
     where
       go : (b : Bool) → Counted (a .count) (considerOn b p v r a .count) 1
       go true = omega arith
-      go false = evaluated-count (ltb (rowValue p v r) (a .best)) (rowValue p v r) r a
+      go false = evaluated-count (beats (rowValue p v r) (a .best) (a .pick)) (rowValue p v r) r a
 
   pub if-count : (b : Bool) (r : ℕ) (a : Found) → Counted (a .count) (considerIf b p v r a .count) 1
   unfolding considerIf

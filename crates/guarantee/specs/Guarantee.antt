@@ -1,5 +1,6 @@
--- What is promised of document 01's rules: each sentence is quoted over the theorem that it is, and a proof is a line that cites. Nothing
--- has to be believed but the model; the statements add `Met` below, and `Accepts`, `Allowed`, `Beyond` and `machineOf` of other files.
+-- What is promised of the rules of documents 01 and 02: each sentence is quoted over the theorem that it is, and a proof is a line
+-- that cites. Nothing has to be believed but the model; the statements add `Met` below, and `Accepts`, `Allowed`, `Beyond` and
+-- `machineOf` of other files.
 use mathlib.Core.Path.{_≡_, _∙_}
 use Prim.Native.Nat.{ℕ, _+_, _-_, _*_, _≤_, _<_}
 use mathlib.Core.Bool.{true, false}
@@ -23,14 +24,14 @@ use Rattle.guarantee.specs.Walks.{reached-marked, walk-whole, listed-rea
 use Rattle.guarantee.specs.Walks.{least-low, least-cheapest}
 use Rattle.guarantee.specs.Accepted.{Accepts, audit-exactly, audit-table}
 use Rattle.guarantee.specs.Closeness.{audit-lower, audit-close}
-use Rattle.guarantee.specs.Sound.{Allowed, best-is-bellman, backup-rises}
+use Rattle.guarantee.specs.Sound.{Allowed, best-is-bellman, scan-gives-up, scan-takes-row, backup-rises}
 use Rattle.guarantee.specs.Backups.{machineOf, run-keeps}
 use Rattle.guarantee.specs.Allowances.{rounds-enough-fit}
 use Rattle.guarantee.specs.Beyond.{Beyond, solution-beyond}
 use Rattle.guarantee.specs.Hollow.{table-too-dear}
 use Rattle.guarantee.specs.Underway.{Underway, turn-open, underway-start, underway-walked, underway-backup, scan-any-memory}
 use Rattle.guarantee.specs.Solutions.{lent-sound, solution-run, solution-ends, spent-budget, refused-by}
-use Rattle.guarantee.specs.Solutions.{never-fourteen, answer-accepted}
+use Rattle.guarantee.specs.Solutions.{never-fourteen, answer-accepted, answer-gives-up}
 
 -- Demand 3: "Take any file, table V and plan that the audit accepts; e is the file's tolerance and C the least cost on the plan, both in
 -- ticks."
@@ -112,6 +113,15 @@ pub acceptance
     → audit f (solution f budget t .tables .values) (solution f budget t .tables .picks) ≡ accepted C
 acceptance = answer-accepted
 
+-- Request E1: "a stick is given up only when that is cheaper". A solved plan gives up at a reached state only where every row costs
+-- more under the values left
+pub plan-gives-up-when-cheaper
+    : (f : List ℕ) (budget : ℕ) (t : Tables) (rounds evaluations C : ℕ) → solution f budget t .answer ≡ solved rounds evaluations C
+    → (s : ℕ) → Reached (problemOf f) (byState (solution f budget t .tables .picks)) s → problemOf f .goal s ≡ false
+    → byState (solution f budget t .tables .picks) s ≡ giveUp → (r : ℕ) → ownRow (problemOf f) s r ≡ true
+    → giveUpCost (problemOf f) < rowValue (problemOf f) (byState (solution f budget t .tables .values)) r
+plan-gives-up-when-cheaper = answer-gives-up
+
 -- Demand 1: "the first failed question of document 01 with its place, lent tables unchanged (save at 14)". The question is one of 1 to 13
 pub refusal
     : (f : List ℕ) (budget : ℕ) (t : Tables) (q i : ℕ) → solution f budget t .answer ≡ refused q i
@@ -158,6 +168,22 @@ module _ (f : List ℕ) (budget : ℕ) (t : Tables) (file : fileQuestions f ≡ 
       → scanOf (problemOf f) s m .best ≡ bellman (problemOf f) (byState (m .values)) s
   built-on-bellman {s = s} {m = m} met =
       best-is-bellman (problemOf f) (well-formed f file) s m (turn-open (underway met) .state) (underway met .sound)
+
+  -- Request E1: "a stick is given up only when that is cheaper": where a backup gives up, every row of the state costs more than
+  -- 1000 × D under the values of that moment
+  pub gives-up-when-cheaper
+      : {s : ℕ} {rest : List ℕ} {m : Machine} → Met (problemOf f) t (s ∷ rest) m → scanOf (problemOf f) s m .pick ≡ giveUp
+      → (r : ℕ) → ownRow (problemOf f) s r ≡ true → giveUpCost (problemOf f) < rowValue (problemOf f) (byState (m .values)) r
+  gives-up-when-cheaper {s = s} {m = m} met =
+      scan-gives-up (problemOf f) (well-formed f file) s m (turn-open (underway met) .state) (underway met .sound)
+
+  -- "A row whose value equals 1000 × D now beats giving up": where some row's value is at most 1000 × D, a backup picks a row
+  pub row-beats-giving-up
+      : {s : ℕ} {rest : List ℕ} {m : Machine} → Met (problemOf f) t (s ∷ rest) m
+      → (r : ℕ) → ownRow (problemOf f) s r ≡ true → rowValue (problemOf f) (byState (m .values)) r ≤ giveUpCost (problemOf f)
+      → ownRow (problemOf f) s (scanOf (problemOf f) s m .pick) ≡ true
+  row-beats-giving-up {s = s} {m = m} met =
+      scan-takes-row (problemOf f) (well-formed f file) s m (turn-open (underway met) .state) (underway met .sound)
 
   -- remembered values never exceed row values
   pub remembered-low

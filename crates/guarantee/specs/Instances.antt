@@ -1,8 +1,9 @@
 -- The theorems speak of something: each one's hypotheses are met by file P of document 01, its answer and its run.
 -- P's facts are those of the melt-room cases and a few more computed from its bytes; the rest cites the theorems.
 use mathlib.Core.Path.{_≡_, refl, ap}
-use Prim.Native.Nat.{ℕ, _+_, _*_, _≤_}
+use Prim.Native.Nat.{ℕ, _+_, _*_, _≤_, _<_}
 use native.Mathlib.Omega.{arith}
+use mathlib.Core.Bool.{true}
 use mathlib.Core.List.{[], _∷_}
 use mathlib.Core.Logic.{_⊎_}
 use lib.IntN.{ℤ}
@@ -10,15 +11,15 @@ use lib.ListN.{replicate}
 use Rattle.model.specs.Bytes.{u16At, u32At}
 use borrow.Author.Tests.{leb-true, le-leb}
 use Rattle.model.specs.Limits.{maxBudget, planRounds, giveUp}
-use Rattle.model.specs.Cases.{fileP, valuesP, picksP, lent, planned, cases-hold, others-hold}
-use Rattle.model.specs.Problem.{Problem, giveUpCost}
+use Rattle.model.specs.Cases.{fileP, penaltyP, tied, valuesP, picksP, lent, planned, cases-hold, others-hold, requested-hold}
+use Rattle.model.specs.Problem.{Problem, giveUpCost, ownRow}
 use Rattle.model.specs.Search.{sumTo}
 use Rattle.model.specs.Value.{byState, rowValue, weightedSum}
 use Rattle.model.specs.Sections.{statesAt, rowsAt, outcomesAt, outcomesFrom, secondsOn, problemOf}
 use Rattle.model.specs.Questions.{passes, fileQuestions}
 use Rattle.model.specs.Walk.{Reached, at-start, visitOutcomes, visitState, next, walk, pickCost, leastCost}
 use Rattle.model.specs.Rounds.{Machine, fillTo, machineStart, walked, runFrom, runOf, scanOf, bellman}
-use Rattle.model.specs.Solution.{fine, Tables, solved, spent, refused, solutionOf, solveQuestions, solution}
+use Rattle.model.specs.Solution.{fine, Tables, Solution, solved, spent, refused, solutionOf, solveQuestions, solution}
 use Rattle.model.specs.Audit.{accepted, refused as audit-refused, audit}
 use Rattle.model.specs.Cover.{Choice, Cover, planOf, allowance, allowanceTo, openTo}
 use Rattle.model.specs.Promises.{Close, roundsEnough}
@@ -29,6 +30,7 @@ use Rattle.guarantee.specs.Closeness.{audit-close}
 use Rattle.guarantee.specs.Solutions.{solution-refused}
 use Rattle.guarantee.specs.Guarantee.{closeness-lower, ending, acceptance, Met, starts, walks, built-on-bellman}
 use Rattle.guarantee.specs.Guarantee.{runs-the-rounds, rounds-fit, giving-up-refused, least-at-most}
+use Rattle.guarantee.specs.Guarantee.{plan-gives-up-when-cheaper, row-beats-giving-up}
 
 abbrev pub problemP : Problem
 problemP = problemOf fileP
@@ -136,6 +138,38 @@ p-met = walks starts
 
 pub p-bellman : scanOf problemP 0 firstP .best ≡ bellman problemP (byState (firstP .values)) 0
 p-bellman = built-on-bellman fileP planRounds (lent 3) p-passes (p-lent planRounds (omega arith)) p-met
+
+-- E1 on P with D 100: the start gives up, and its row 0 costs more than 100,000 under the values left
+abbrev pub cheaplyP : Solution
+cheaplyP = planned (penaltyP 100 0) 3
+
+pub p-gives-up-at-100
+    : giveUpCost (problemOf (penaltyP 100 0)) < rowValue (problemOf (penaltyP 100 0)) (byState (cheaplyP .tables .values)) 0
+unfolding problemOf statesAt rowsAt sumTo u16At u32At
+p-gives-up-at-100 =
+    plan-gives-up-when-cheaper (penaltyP 100 0) planRounds (lent 3) 3 2 100000 (requested-hold .1 .1 .1 .1 .1 .0)
+    0 at-start refl (ap (λ l. byState l 0) (requested-hold .1 .1 .1 .1 .1 .1 .0)) 0 refl
+
+-- and on a file whose one row costs exactly 1000 × D: the first backup picks it
+abbrev pub firstTied : Machine
+firstTied = walked (problemOf tied) (machineStart (problemOf tied) (lent 2 .values) (lent 2 .picks) (lent 2 .remembered))
+
+pub tied-met : Met (problemOf tied) (lent 2) (0 ∷ []) firstTied
+unfolding walk visitState visitOutcomes next machineStart fillTo problemOf statesAt rowsAt sumTo u16At u32At
+tied-met = walks starts
+
+pub tied-lent : solveQuestions (problemOf tied) planRounds (lent 2) ≡ passes
+unfolding solveQuestions problemOf statesAt rowsAt u16At u32At
+tied-lent = refl
+
+pub tied-cheap : rowValue (problemOf tied) (byState (firstTied .values)) 0 ≤ giveUpCost (problemOf tied)
+unfolding machineStart fillTo problemOf statesAt rowsAt outcomesAt outcomesFrom secondsOn sumTo u16At u32At rowValue weightedSum
+tied-cheap = leb-true _ _ refl
+
+pub tied-taken : ownRow (problemOf tied) 0 (scanOf (problemOf tied) 0 firstTied .pick) ≡ true
+unfolding problemOf statesAt rowsAt sumTo u16At u32At
+tied-taken =
+    row-beats-giving-up tied planRounds (lent 2) (requested-hold .1 .1 .1 .1 .1 .1 .1 .0) tied-lent tied-met 0 refl tied-cheap
 
 -- a refusal: "Empty file: 1, place 0"
 pub empty-refused : (budget : ℕ) (t : Tables) → solution [] budget t .answer ≡ refused 1 0

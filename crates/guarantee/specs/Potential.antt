@@ -17,7 +17,6 @@ use Rattle.model.specs.Value.{byState}
 use Rattle.model.specs.Cover.{allowanceOn, allowanceTo, openTo}
 use Rattle.model.specs.Rounds.{Machine, scanOf, backup, round}
 use Rattle.guarantee.specs.WellFormed.{WellFormed}
-use Rattle.guarantee.specs.Rows.{giveUp-not-own}
 use Rattle.guarantee.specs.Sums.{sum-below, sum-less, quotient-less}
 use Rattle.guarantee.specs.Values.{quotient-rises}
 use Rattle.guarantee.specs.Choosing.{choice, choice-again}
@@ -95,7 +94,7 @@ module _ (p : Problem) (formed : WellFormed p) (v picks after : ℕ → ℕ) (s 
   unfolding unsettledAt
   unsettled-at-less takes turns =
       let again : choice p v s (after s) .pick ≡ after s =
-      rw takes (ap (λ c. c .pick) (choice-again p v s (picks s) (giveUp-not-own p formed s (o .state)))) in
+      rw takes (ap (λ c. c .pick) (choice-again p formed v s (o .state) (picks s))) in
       rw (o .no-goal, eq-eqb _ _ again, ne-eqb _ _ turns) (omega arith)
 
   unsettled-at-same : (t : ℕ) → after t ≡ picks t → unsettledAt p v after t ≤ unsettledAt p v picks t

@@ -5,16 +5,16 @@ use Prim.Native.Nat.{ℕ, zero, suc, _+_, _≤_, _<_}
 use native.Mathlib.Omega.{arith}
 use mathlib.Core.Bool.{Bool, true, false, not}
 use mathlib.Core.List.{List}
-use lib.Dec.{leb, ltb, eqb}
+use lib.Dec.{ltb, eqb}
 use lib.ListN.{getD, set, length, length-set}
-use borrow.Author.Tests.{leb-true}
+use borrow.Author.Tests.{ltb-false}
 use Rattle.model.specs.Problem.{Problem, ownRow}
 use Rattle.model.specs.Value.{rowValue}
-use Rattle.model.specs.Rounds.{Found, evaluateOn, considerOn, consider, considerIf, scanFrom, scan}
+use Rattle.model.specs.Rounds.{Found, beats, evaluateOn, considerOn, consider, considerIf, scanFrom, scan}
 use Rattle.guarantee.specs.WellFormed.{WellFormed}
 use Rattle.guarantee.specs.Tables.{stored}
 use Rattle.guarantee.specs.Walks.{rows-within, own-row}
-use Rattle.guarantee.specs.Choosing.{Chosen, chooseOn, choose, chooseIf, chooseFrom, choose-idle}
+use Rattle.guarantee.specs.Choosing.{Chosen, pickOf, threshold, beats-below, chooseOn, choose, chooseIf, chooseFrom, choose-idle}
 
 -- what each row remembers is at most its value under v
 abbrev pub Memory : Problem → (ℕ → ℕ) → List ℕ → Type 0
@@ -22,7 +22,7 @@ Memory p v l = (r : ℕ) → r < p .rows → getD l r 0 ≤ rowValue p v r
 
 -- best and pick of a scan so far
 abbrev pub chosen : Found → Chosen
-chosen a = record { best = a .best; pick = a .pick }
+chosen a = pickOf (a .best) (a .pick)
 
 -- a part of a scan from a to a′ that ends at c
 pub record Scanned (p : Problem) (v : ℕ → ℕ) (a a′ : Found) (c : Chosen) : Type 0 where
@@ -43,9 +43,9 @@ module _ (p : Problem) (v : ℕ → ℕ) where
   evaluated true r a h = record { ends = refl; memory = memory-stored (a .remembered) r h; size = length-set (a .remembered) r _ }
   evaluated false r a h = record { ends = refl; memory = memory-stored (a .remembered) r h; size = length-set (a .remembered) r _ }
 
-  -- a skipped row would not have been picked: its remembered value is at least best and at most its value
+  -- a skipped row would not have been picked: its remembered value does not beat, and its value is no less
   pub skipped-not-better
-      : (r : ℕ) (a : Found) → r < p .rows → Memory p v (a .remembered) → a .best ≤ getD (a .remembered) r 0
+      : (r : ℕ) (a : Found) → r < p .rows → Memory p v (a .remembered) → threshold (chosen a) ≤ getD (a .remembered) r 0
       → choose (rowValue p v) r (chosen a) ≡ chosen a
   skipped-not-better r a l h skipped = choose-idle (rowValue p v) r (chosen a) (omega (arith, h r l))
 
@@ -53,13 +53,13 @@ module _ (p : Problem) (v : ℕ → ℕ) where
       : (r : ℕ) (a : Found) → r < p .rows → Memory p v (a .remembered)
       → Scanned p v a (consider p v r a) (choose (rowValue p v) r (chosen a))
   unfolding consider considerOn choose
-  considered r a l h = go (leb (a .best) (getD (a .remembered) r 0)) refl
+  considered r a l h = go (beats (getD (a .remembered) r 0) (a .best) (a .pick)) (sym (beats-below (chosen a) _))
     where
       go
-          : (b : Bool) → leb (a .best) (getD (a .remembered) r 0) ≡ b
-          → Scanned p v a (considerOn b p v r a) (choose (rowValue p v) r (chosen a))
-      go true e = record { ends = sym (skipped-not-better r a l h (leb-true _ _ e)); memory = h; size = refl }
-      go false e = evaluated (ltb (rowValue p v r) (a .best)) r a h
+          : (b : Bool) → ltb (getD (a .remembered) r 0) (threshold (chosen a)) ≡ b
+          → Scanned p v a (considerOn (not b) p v r a) (choose (rowValue p v) r (chosen a))
+      go true e = evaluated (beats (rowValue p v r) (a .best) (a .pick)) r a h
+      go false e = record { ends = sym (skipped-not-better r a l h (ltb-false _ _ e)); memory = h; size = refl }
 
   pub considered-if
       : (b : Bool) (r : ℕ) (a : Found) → (b ≡ true → r < p .rows) → Memory p v (a .remembered)

@@ -1,20 +1,20 @@
 -- Solving a file, told by its answer and the tables that are left: refusals leave the tables as lent, number 14 never comes, solved is
 -- accepted. With questions 1 to 13 answered yes the machine is sound from the start, so the checked run is the run of Rounds.antt.
 use mathlib.Core.Path.{_≡_, refl, sym, _∙_, ap}
-use Prim.Native.Nat.{ℕ, _≤_}
+use Prim.Native.Nat.{ℕ, _≤_, _<_}
 use native.Mathlib.Omega.{arith}
-use mathlib.Core.Bool.{true, true≢false}
+use mathlib.Core.Bool.{true, false, true≢false}
 use mathlib.Core.List.{List}
 use lib.Dec.{leb}
 use lib.ListN.{length}
 use borrow.Author.Tests.{leb-true}
-use Rattle.model.specs.Limits.{maxBudget}
-use Rattle.model.specs.Problem.{Problem}
-use Rattle.model.specs.Value.{byState}
+use Rattle.model.specs.Limits.{maxBudget, giveUp}
+use Rattle.model.specs.Problem.{Problem, giveUpCost, ownRow}
+use Rattle.model.specs.Value.{rowValue, byState}
 use Rattle.model.specs.Sections.{problemOf}
 use Rattle.model.specs.Questions.{Verdict, passes, fails, _then_, ask}
 use Rattle.model.specs.Questions.{fileQuestions}
-use Rattle.model.specs.Walk.{leastCost}
+use Rattle.model.specs.Walk.{Reached, leastCost}
 use Rattle.model.specs.Rounds.{Machine, Ending, machineStart, runOf}
 use Rattle.model.specs.Solution.{fine, Tables, Answer, solved, spent, refused, tablesOf, solutionOf}
 use Rattle.model.specs.Solution.{solveQuestions, solutionOn, solution}
@@ -27,7 +27,7 @@ use Rattle.guarantee.specs.Sound.{Sound, start-sound}
 use Rattle.guarantee.specs.Backups.{run-spent}
 use Rattle.guarantee.specs.Checks.{checked-run}
 use Rattle.guarantee.specs.Ending.{solve-ends}
-use Rattle.guarantee.specs.Solved.{solved-passes-audit}
+use Rattle.guarantee.specs.Solved.{solved-passes-audit, solved-gives-up}
 
 -- what questions 12 and 13 give
 pub record Lent (p : Problem) (budget : ℕ) (t : Tables) : Type 0 where
@@ -223,3 +223,17 @@ module _ (f : List ℕ) (budget : ℕ) (t : Tables) where
       (solved-passes-audit f (t .values) (t .picks) (t .remembered) (by .file)
       (long .values-long) (long .picks-long) (long .remembered-long)
       budget n (by .machine) (by .run) ∙ ap accepted (by .least))
+
+  -- E1: and where its plan gives up no row costs as little
+  pub answer-gives-up
+      : (n e C : ℕ) → solution f budget t .answer ≡ solved n e C
+      → (s : ℕ) → Reached (problemOf f) (byState (solution f budget t .tables .picks)) s → problemOf f .goal s ≡ false
+      → byState (solution f budget t .tables .picks) s ≡ giveUp → (r : ℕ) → ownRow (problemOf f) s r ≡ true
+      → giveUpCost (problemOf f) < rowValue (problemOf f) (byState (solution f budget t .tables .values)) r
+  answer-gives-up n e C h =
+      let by = solved-by n e C h in
+      let long = lent-long (problemOf f) budget t (by .lent) in
+      rw (by .left)
+      (solved-gives-up (problemOf f) (well-formed f (by .file)) (t .values) (t .picks) (t .remembered)
+      (long .values-long) (long .picks-long) (long .remembered-long)
+      budget n (by .machine) (by .run))

@@ -10,9 +10,9 @@ use lib.Dec.{eqb}
 use lib.ListN.{getD, length}
 use borrow.Author.Tests.{eqb-false, eq-eqb, ne-eqb}
 use Rattle.model.specs.Limits.{giveUp}
-use Rattle.model.specs.Problem.{Problem, ownRow}
-use Rattle.model.specs.Value.{byState}
-use Rattle.model.specs.Walk.{In, here, there, walk, leastCost}
+use Rattle.model.specs.Problem.{Problem, giveUpCost, ownRow}
+use Rattle.model.specs.Value.{rowValue, byState}
+use Rattle.model.specs.Walk.{In, here, there, walk, Reached, leastCost}
 use Rattle.model.specs.Sections.{problemOf}
 use Rattle.model.specs.Questions.{passes, fileQuestions}
 use Rattle.model.specs.Rounds.{Machine, scanOf, backup, backups, walked, round, solved, machineStart, runOf}
@@ -21,7 +21,7 @@ use Rattle.guarantee.specs.WellFormed.{WellFormed, well-formed}
 use Rattle.guarantee.specs.Graphs.{in-cons, in-nil}
 use Rattle.guarantee.specs.Walks.{marked-reached, reached-listed}
 use Rattle.guarantee.specs.Rows.{row-no-mark}
-use Rattle.guarantee.specs.Choosing.{Chosen, choice, Landed, at-giving-up, at-row, choice-landed}
+use Rattle.guarantee.specs.Choosing.{Chosen, choice, Landed, at-giving-up, at-row, choice-landed, gives-up-dear}
 use Rattle.guarantee.specs.Sound.{Sound, start-sound, scan-law, backup-sound}
 use Rattle.guarantee.specs.Backups.{Open, Backed, rose, turned, rested}
 use Rattle.guarantee.specs.Backups.{backed, walk-opens, walked-sound, round-sound, round-list, run-quiet}
@@ -126,6 +126,7 @@ pub record Final (p : Problem) (m : Machine) : Type 0 where
   pub sound : Sound p m
   pub listed : m .list ≡ walk p (byState (m .picks)) .list
   pub accepts : Accepts p (byState (m .values)) (byState (m .picks)) (leastCost p (byState (m .picks)))
+  pub rests : (s : ℕ) → In s (walk p (byState (m .picks)) .list) → Rests p (p .tolerance) (m .values) (m .picks) s
 
 quiet-final : (p : Problem) → WellFormed p → (m : Machine) → Sound p m → round p (p .tolerance) m .moved ≡ false
     → Final p (round p (p .tolerance) m)
@@ -135,6 +136,7 @@ quiet-final p formed m sound quiet =
       sound = round-sound p formed (p .tolerance) m sound;
       listed = round-list p (p .tolerance) m ∙ rw (still .picks) refl;
       accepts = rw (still .values, still .picks) (resting-accepted p formed m sound (still .rests));
+      rests = rw (still .values, still .picks) (still .rests);
     }
 
 -- whatever the budget
@@ -148,6 +150,15 @@ module _ (p : Problem) (formed : WellFormed p) (values picks remembered : List �
       let sound = start-sound p formed values picks remembered long-values long-picks long-remembered in
       let last = run-quiet p (p .tolerance) (λ n. Sound p) (λ n. round-sound p formed (p .tolerance)) budget 0 start k m sound run in
       rw (last .ends) at (quiet-final p formed (last .before) (last .held) (last .quiet))
+
+  -- E1: a reached state whose pick gives up has no row that costs as little under the values left
+  pub solved-gives-up
+      : (s : ℕ) → Reached p (byState (m .picks)) s → p .goal s ≡ false → byState (m .picks) s ≡ giveUp
+      → (r : ℕ) → ownRow p s r ≡ true → giveUpCost p < rowValue p (byState (m .values)) r
+  solved-gives-up s reached no-goal gives =
+      let listed = reached-listed p formed (byState (m .picks)) s reached no-goal in
+      let state = walk-opens p formed (byState (m .picks)) s listed .state in
+      gives-up-dear p formed (byState (m .values)) s state (byState (m .picks) s) (solved-final .rests s listed .same ∙ gives)
 
 -- of a file: a solved run's tables pass the audit of the same file, which gives the run's C
 pub solved-passes-audit

@@ -16,7 +16,7 @@ use Rattle.guarantee.specs.Values.{rowValue-rises-all, rowValue-same-sta
 use Rattle.guarantee.specs.Undercuts.{NoUndercut}
 use Rattle.guarantee.specs.Tables.{stored, fill-length, fill-entry}
 use Rattle.guarantee.specs.Rows.{row-of-file}
-use Rattle.guarantee.specs.Choosing.{choice, Landed, at-giving-up, at-row, choice-landed}
+use Rattle.guarantee.specs.Choosing.{choice, Landed, at-giving-up, at-row, choice-landed, gives-up-dear}
 use Rattle.guarantee.specs.Scans.{Memory, chosen, Scanned, scanned}
 use Rattle.guarantee.specs.Bellman.{bellman-high, bellman-under, bellman-greatest, choice-bellman}
 
@@ -90,7 +90,8 @@ module _ (p : Problem) (formed : WellFormed p) where
 
     -- "built on the Bellman backup": skipping and memory change nothing
     pub best-is-bellman : scanOf p s m .best ≡ bellman p (byState (m .values)) s
-    best-is-bellman = ap (λ c. c .best) (scan-law .ends) ∙ choice-bellman p (byState (m .values)) s (getD (m .picks) s 0)
+    best-is-bellman =
+        ap (λ c. c .best) (scan-law .ends) ∙ choice-bellman p (byState (m .values)) s formed state (getD (m .picks) s 0)
 
     -- best is never below the value that stands
     pub value-below-best : getD (m .values) s 0 ≤ scanOf p s m .best
@@ -106,6 +107,23 @@ module _ (p : Problem) (formed : WellFormed p) where
 
     pub scan-landed : Landed p (byState (m .values)) s (chosen (scanOf p s m))
     scan-landed = rw (scan-law .ends) (choice-landed p (byState (m .values)) s (getD (m .picks) s 0))
+
+    -- E1: where a backup gives up, every own row costs more than giving up
+    pub scan-gives-up
+        : scanOf p s m .pick ≡ giveUp → (r : ℕ) → ownRow p s r ≡ true → giveUpCost p < rowValue p (byState (m .values)) r
+    scan-gives-up gives =
+        gives-up-dear p formed (byState (m .values)) s state (getD (m .picks) s 0)
+        (ap (λ c. c .pick) (sym (scan-law .ends)) ∙ gives)
+
+    -- so where an own row costs no more, a backup picks a row
+    pub scan-takes-row
+        : (r : ℕ) → ownRow p s r ≡ true → rowValue p (byState (m .values)) r ≤ giveUpCost p
+        → ownRow p s (scanOf p s m .pick) ≡ true
+    scan-takes-row r own cheap = go scan-landed
+      where
+        go : Landed p (byState (m .values)) s (chosen (scanOf p s m)) → ownRow p s (scanOf p s m .pick) ≡ true
+        go (at-giving-up e b) = absurd (omega (arith, scan-gives-up e r own))
+        go (at-row picked b high) = picked
 
     -- values only rise
     pub backup-rises : (e : ℕ) (t : ℕ) → getD (m .values) t 0 ≤ getD (backup p e s m .values) t 0

@@ -1,4 +1,5 @@
--- "Melt-room cases": the starred items of document 01 as one list of statements about the definitions, proved together by computing.
+-- "Melt-room cases": the starred items of document 01 as one list of statements about the definitions, and the cases of document
+-- 02's requests as another, proved together by computing.
 use mathlib.Core.Path.{_≡_, refl}
 use Prim.Native.Nat.{ℕ, _+_}
 use mathlib.Core.Bool.{false}
@@ -16,7 +17,7 @@ use Rattle.model.specs.Questions.{stateQuestion, startQuestion, rowNumbe
 use Rattle.model.specs.Questions.{outcomeNumberQuestion, outcomesObey, outcomeQuestion, undercutRow, undercutState}
 use Rattle.model.specs.Questions.{estimateQuestion, itemQuestions, fileQuestions}
 use Rattle.model.specs.Walk.{walk, visitState, visitOutcomes, next, leastCost, leastTo, pickCost}
-use Rattle.model.specs.Rounds.{evaluateOn, settle, raiseOn, machineStart, fillTo, listTable}
+use Rattle.model.specs.Rounds.{beats, evaluateOn, settle, raiseOn, machineStart, fillTo, listTable}
 use Rattle.model.specs.Solution.{Tables, Solution, solved, solution, solutionOn, solutionOf, solveQuestions, checkedRunFrom}
 use Rattle.model.specs.Solution.{checkedRound, checkedBackups, checkedBackup, checkedScan, checkedScanFrom, checkedConsiderIf}
 use Rattle.model.specs.Solution.{checkedConsider, checkedConsiderOn, checkedEvaluate}
@@ -60,6 +61,40 @@ estimateP low = set (changed 16 low 134) 18 1
 -- "One state, no goal, no rows, e 1, D 1, H 0"
 abbrev pub oneState : List ℕ
 oneState = 3 ∷ 0 ∷ 0 ∷ 0 ∷ 0 ∷ 0 ∷ 1 ∷ 0 ∷ 0 ∷ 0 ∷ 1 ∷ 0 ∷ 0 ∷ 0 ∷ 1 ∷ 0 ∷ 0 ∷ 0 ∷ 0 ∷ 0 ∷ 0 ∷ 0 ∷ 0 ∷ 0 ∷ 0 ∷ 0 ∷ []
+
+-- P with its penalty changed
+abbrev pub penaltyP : ℕ → ℕ → List ℕ
+penaltyP low high = changed 10 low high
+
+-- the parts of a small file, each with what follows it: settings with start 0, e 1 and a penalty; a state that is no goal, H 0, with
+-- so many rows; a goal; a row of so many seconds with one outcome; an outcome of weight 1,000
+abbrev pub penalty : ℕ → List ℕ → List ℕ
+penalty d rest = 3 ∷ 0 ∷ 0 ∷ 0 ∷ 0 ∷ 0 ∷ 1 ∷ 0 ∷ 0 ∷ 0 ∷ d ∷ 0 ∷ 0 ∷ 0 ∷ rest
+
+abbrev pub state : ℕ → List ℕ → List ℕ
+state rows rest = 0 ∷ 0 ∷ 0 ∷ 0 ∷ rows ∷ 0 ∷ rest
+
+abbrev pub goal : List ℕ → List ℕ
+goal rest = 0 ∷ 0 ∷ 0 ∷ 0 ∷ 0 ∷ 1 ∷ rest
+
+abbrev pub row : ℕ → List ℕ → List ℕ
+row seconds rest = 0 ∷ 1 ∷ seconds ∷ 0 ∷ rest
+
+abbrev pub to : ℕ → List ℕ → List ℕ
+to s rest = s ∷ 0 ∷ 232 ∷ 3 ∷ rest
+
+-- D 100: state 0 has one row, or two, of 100 s to the goal
+abbrev pub tied : List ℕ
+tied = penalty 100 (2 ∷ 0 ∷ state 1 (goal (1 ∷ 0 ∷ row 100 (1 ∷ 0 ∷ to 1 []))))
+
+abbrev pub tiedTwice : List ℕ
+tiedTwice = penalty 100 (2 ∷ 0 ∷ state 2 (goal (2 ∷ 0 ∷ row 100 (row 100 (2 ∷ 0 ∷ to 1 (to 1 []))))))
+
+-- D 200: from state 0 row 0, 200 s to the goal, or row 1, 100 s to state 1, whose row 2 is 100 s to the goal
+abbrev pub tiedLater : List ℕ
+tiedLater =
+    penalty 200
+    (3 ∷ 0 ∷ state 2 (state 1 (goal (3 ∷ 0 ∷ row 200 (row 100 (row 100 (3 ∷ 0 ∷ to 2 (to 1 (to 2 [])))))))))
 
 -- four lent tables of n entries, and what `plan` does with a file
 abbrev pub lent : ℕ → Tables
@@ -149,17 +184,32 @@ others =
     ∷ (entries16 (2 ∷ 1 ∷ 7 ∷ []) ≡ 258 ∷ [])
     ∷ []
 
+-- the cases of document 02's requests
+abbrev pub requested : List (Type 0)
+requested =
+    -- E1: a row of exactly 1000 × D is taken, at first and after values rose; of two such rows the earlier; where row 1 was picked
+    -- and comes to tie with row 0, row 1 stays. Where each row is dearer, P's start gives up
+    (planText 2 (planned tied 2) ≡ codes "solved 2 2 100000\n0 100000 0\n")
+    ∷ (planText 3 (planned (penaltyP 114 1) 3) ≡ codes "solved 3 5 100000\n0 370000 0\n1 300000 2\n")
+    ∷ (planText 2 (planned tiedTwice 2) ≡ codes "solved 2 2 100000\n0 100000 0\n")
+    ∷ (planText 3 (planned tiedLater 3) ≡ codes "solved 3 6 100000\n0 200000 1\n1 100000 2\n")
+    ∷ (planText 3 (planned (penaltyP 100 0) 3) ≡ codes "solved 3 2 100000\n0 100000 give\n")
+    ∷ (planned (penaltyP 100 0) 3 .answer ≡ solved 3 2 100000)
+    ∷ (planned (penaltyP 100 0) 3 .tables .picks ≡ 65535 ∷ 65535 ∷ 65534 ∷ [])
+    ∷ (fileQuestions tied ≡ passes)
+    ∷ []
+
 infixr 40 _and_
 abbrev _and_ : {A B : Type 0} → A → B → A × B
 a and b = (a, b)
 
-computed : All cases × All others
+computed : All cases × All others × All requested
 unfolding fileQuestions layoutQuestions sectionQuestions endQuestion settingQuestions itemQuestions stateQuestion stateObeys startQuestion
     rowNumberQuestion rowQuestion rowObeys costObeys outcomeNumberQuestion outcomeQuestion outcomesObey estimateQuestion undercutState
     undercutRow first sumTo rowValue weightedSum totalWeight problemOf statesAt rowsAt outcomesAt fileEnd outcomesFrom rateSeconds
     secondsOn u16At u32At
     solution solutionOn solutionOf solveQuestions checkedRunFrom checkedRound checkedBackups checkedBackup checkedScan checkedScanFrom
-    checkedConsiderIf checkedConsider checkedConsiderOn checkedEvaluate evaluateOn settle raiseOn machineStart fillTo listTable
+    checkedConsiderIf checkedConsider checkedConsiderOn checkedEvaluate beats evaluateOn settle raiseOn machineStart fillTo listTable
     walk visitState visitOutcomes next leastCost leastTo pickCost
     audit problemAudit tableQuestions unboundedState strayState slackState pickValue
     planText answerLine stateLines stateLine listed runStates decimal decimalFrom auditLine numberBytes tableBytes listTo entries16
@@ -168,6 +218,7 @@ computed = (
       and refl and refl and refl and refl and refl and refl and refl and refl and refl and tt,
   refl and refl and refl and refl and refl and refl and refl and refl and refl and refl
       and refl and refl and tt,
+  refl and refl and refl and refl and refl and refl and refl and refl and tt,
 )
 
 pub cases-hold : All cases
@@ -175,3 +226,6 @@ cases-hold = computed .0
 
 pub others-hold : All others
 others-hold = computed .1
+
+pub requested-hold : All requested
+requested-hold = computed .2

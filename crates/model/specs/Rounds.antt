@@ -1,6 +1,6 @@
 -- "Rounds of the solver": the scan of one state's rows, the backup, the round and the run.
 use Prim.Native.Nat.{ℕ, zero, suc, _+_, _-_, min}
-use mathlib.Core.Bool.{Bool, true, false, _||_, not}
+use mathlib.Core.Bool.{Bool, true, false, _&&_, _||_, not}
 use mathlib.Core.List.{List, [], _∷_, _++_}
 use lib.Dec.{leb, ltb, eqb}
 use lib.ListN.{getD, set, length, drop, replicate}
@@ -16,21 +16,32 @@ pub record Found : Type 0 where
   pub count : ℕ
   pub remembered : List ℕ
 
--- "it is evaluated: counted, its value remembered, and picked, becoming best, if it is below best"
+-- Request E1: "Operators have decided that a stick is given up only when that is cheaper. A row whose value equals 1000 × D now beats
+-- giving up; among rows the earlier pick and then row order still win. A row is skipped while giving up is best only if its remembered
+-- value is above 1000 × D. Runs, solved or spent, are compared with the changed rounds.": x beats what is best so far where it is
+-- below it, or equals it while giving up is best
+unfoldable pub beats : ℕ → ℕ → ℕ → Bool
+beats x best pick = ltb x best || (eqb pick giveUp && eqb x best)
+
+-- "it is evaluated: counted, its value remembered, and picked, becoming best, if it" beats what is best so far
 unfoldable pub evaluateOn : Bool → ℕ → ℕ → Found → Found
 evaluateOn true q r a = record { best = q; pick = r; count = a .count + 1; remembered = set (a .remembered) r q }
 evaluateOn false q r a = record { best = a .best; pick = a .pick; count = a .count + 1; remembered = set (a .remembered) r q }
 
 abbrev pub evaluate : ℕ → ℕ → Found → Found
-evaluate q r a = evaluateOn (ltb q (a .best)) q r a
+evaluate q r a = evaluateOn (beats q (a .best) (a .pick)) q r a
 
--- "A row whose remembered value is at least best is skipped. Otherwise it is evaluated"
+-- "A row whose remembered value is at least best is skipped. Otherwise it is evaluated." Since E1 a row is skipped unless its
+-- remembered value beats what is best so far
+abbrev pub skipped : ℕ → Found → Bool
+skipped r a = not (beats (getD (a .remembered) r 0) (a .best) (a .pick))
+
 unfoldable pub considerOn : Bool → Problem → (ℕ → ℕ) → ℕ → Found → Found
 considerOn true p v r a = a
 considerOn false p v r a = evaluate (rowValue p v r) r a
 
 unfoldable pub consider : Problem → (ℕ → ℕ) → ℕ → Found → Found
-consider p v r a = considerOn (leb (a .best) (getD (a .remembered) r 0)) p v r a
+consider p v r a = considerOn (skipped r a) p v r a
 
 -- a row is considered where the test says so
 unfoldable pub considerIf : Bool → Problem → (ℕ → ℕ) → ℕ → Found → Found

@@ -11,7 +11,7 @@ use Rattle.model.specs.Sections.{problemOf}
 use Rattle.model.specs.Value.{rowValue, byState}
 use Rattle.model.specs.Questions.{Verdict, passes, fails, _then_, ask, fileQuestions}
 use Rattle.model.specs.Walk.{walk, leastCost}
-use Rattle.model.specs.Rounds.{Found, Machine, Ending, evaluate, scanStart, settle, walked, machineStart, listTable}
+use Rattle.model.specs.Rounds.{Found, Machine, Ending, evaluate, skipped, scanStart, settle, walked, machineStart, listTable}
 
 -- "At an evaluation: does the row value fit in 32 bits? 14 (row; tables as before that backup).": all is fine, or the value of a
 -- row is too large, and the machine is left as it was before that backup
@@ -36,7 +36,7 @@ checkedConsiderOn false p r m a =
     let q = rowValue p (byState (m .values)) r in checkedEvaluate (ltb q valueBound) q r m a
 
 unfoldable pub checkedConsider : Problem → ℕ → Machine → Found → Checked Found
-checkedConsider p r m a = checkedConsiderOn (leb (a .best) (getD (a .remembered) r 0)) p r m a
+checkedConsider p r m a = checkedConsiderOn (skipped r a) p r m a
 
 unfoldable pub checkedConsiderIf : Bool → Problem → ℕ → Machine → Found → Checked Found
 checkedConsiderIf true p r m a = checkedConsider p r m a

@@ -14,6 +14,7 @@ use comparisons::library::{
 };
 use comparisons::limits::*;
 use comparisons::made::{at_limits, deep_chain, made};
+use comparisons::plain::{plain_run, Ties};
 use comparisons::problem::Problem;
 use comparisons::random::Random;
 use comparisons::solver::{solve, solve_file, Answer, OwnedTables};
@@ -36,6 +37,18 @@ const LEAST: [(&str, u64); 4] = [
     ("spent", 13_000),
     ("refused", 23_000),
 ];
+/// Ties are counted on files of at most so many states.
+const TIE_STATES: usize = 10;
+/// The kinds of ties, and how many comparisons must meet each.
+const TIES: [(&str, u64, fn(&Ties) -> u64); 7] = [
+    ("compared with a tie at 1000 x D", 2_000, |ties| ties.met),
+    ("compared with a tie at first", 1_000, |ties| ties.at_first),
+    ("compared with a tie after values rose", 1_000, |ties| ties.risen),
+    ("compared with a tie at the row picked before", 1_000, |ties| ties.at_pick),
+    ("compared with a tie at another row", 1_000, |ties| ties.at_others),
+    ("compared with a tie of several rows of a state", 1_000, |ties| ties.of_several),
+    ("compared with a pick kept at a tie with an earlier row", 1_000, |ties| ties.kept),
+];
 
 /// Tables of noise: mostly longer than needed, or just long enough, or one of them short.
 fn lent(random: &mut Random, states: usize, rows: usize) -> OwnedTables {
@@ -57,14 +70,15 @@ fn lent(random: &mut Random, states: usize, rows: usize) -> OwnedTables {
     }
 }
 
-/// Compares one run on tables of noise, the answer lent at any length from 0 to 5.
+/// Compares one run on tables of noise, the answer lent at any length from 0 to 5. Says whether it
+/// ran.
 fn compare_run(
     random: &mut Random,
     tally: &mut Tally,
     file: &[u8],
     budget: u64,
     sizes: [usize; 2],
-) {
+) -> bool {
     let mut given = lent(random, sizes[0], sizes[1]);
     let mut asked = given.clone();
     let length = match random.below(12) {
@@ -96,6 +110,16 @@ fn compare_run(
             tally.count("solved after 100 rounds or more");
         }
         compare_own_audit(tally, file, &mut given, given_answer[2]);
+    }
+    matches!(asked_code, SOLVED | SPENT)
+}
+
+/// Counts the kinds of ties that the run of a problem at a budget meets.
+fn count_ties(tally: &mut Tally, problem: &Problem, budget: u64) {
+    let mut ties = Ties::default();
+    plain_run(problem, budget, &mut OwnedTables::new(problem), &mut ties);
+    for (name, ..) in TIES.iter().filter(|(_, _, count)| count(&ties) > 0) {
+        tally.count(name);
     }
 }
 
@@ -142,7 +166,11 @@ fn compare_file(random: &mut Random, tally: &mut Tally, file: &[u8]) {
     let case = std::mem::take(&mut tally.case);
     for budget in budgets(tally, problem.as_ref()) {
         tally.case = format!("{case}, budget {budget}");
-        compare_run(random, tally, file, budget, sizes);
+        let ran = compare_run(random, tally, file, budget, sizes);
+        match &problem {
+            Some(problem) if ran && sizes[0] <= TIE_STATES => count_ties(tally, problem, budget),
+            _ => {}
+        }
     }
 }
 
@@ -165,7 +193,8 @@ fn draft_of(random: &mut Random, number: u64) -> Draft {
 
 /// Compares the files of a seed.
 fn compare(seed: u64, files: u64) -> ExitCode {
-    let mut tally = Tally::asking(&LEAST);
+    let ties = TIES.iter().map(|&(name, least, _)| (name, least));
+    let mut tally = Tally::asking(&LEAST.into_iter().chain(ties).collect::<Vec<_>>());
     for number in 0..files {
         let mut random = Random::of_file(seed, number);
         let draft = draft_of(&mut random, number);

@@ -3,7 +3,7 @@
 -- Made by `places make` from answers/backup/backup.ans: edit that file, and not this one.
 use mathlib.Core.Path.{refl, sym, _∙_}
 use mathlib.Core.Bool.{true≢false}
-use Rattle.backing.proofs.BackingUp.{backable-scannable, given-room, given-scan, backup-done}
+use Rattle.backing.proofs.BackingUp.{backable-scannable, given-room, given-going, given-scan, backup-done}
 use borrow.Author.Needs.{needs}
 use native.Mathlib.Omega.{arith}
 use Rattle.backing.proofs.backup.backup.Statement.{statement}
@@ -18,19 +18,22 @@ slice-read-prev c = omega (arith, c .before .before .before .before .before .pre
 cast-before : tie.Need-cast-before
 cast-before c = omega (arith, c .before .before .slice-known2 .given (c .before .before .before .before .before .args .s))
 
+add-t20 : tie.Need-add-t20
+add-t20 c = omega (arith, c .before .before .before .before .before .pre .0 .formed .penalty-high, c .before .before .before .before .before .pre .2)
+
 scan-requires : tie.Need-scan-requires
 scan-requires c κs = (
   backable-scannable (c .before .before .before .before .before .before .before .before .pre .0),
   c .before .before .before .before .before .before .before .before .pre .1,
   given-room (c .before .before .before .before .before .before .before .before .pre .0) _ _ (c .before .before .before .before .before .before .before .before .pre .2) (c .before .before .before .before .before .before .before .before .pre .3),
-  refl,
+  given-going _,
 )
 
 undo-requires : tie.Need-undo-requires
-undo-requires c κs = absurd (true≢false (sym (c .before .before .if1 .taken) ∙ (c .before .before .before .before .before .scan .ensures .1)))
+undo-requires c κs = absurd (true≢false (sym (c .before .before .if1 .taken) ∙ (c .before .before .before .before .before .scan .ensures .1 .fine)))
 
-cast-t30 : tie.Need-cast-t30
-cast-t30 c = absurd (true≢false (sym (c .before .before .before .before .before .before .if1 .taken) ∙ (c .before .before .before .before .before .before .before .before .before .scan .ensures .1)))
+cast-t31 : tie.Need-cast-t31
+cast-t31 c = absurd (true≢false (sym (c .before .before .before .before .before .before .if1 .taken) ∙ (c .before .before .before .before .before .before .before .before .before .scan .ensures .1 .fine)))
 
 same-length : tie.Need-same-length
 same-length c = search needs
@@ -39,7 +42,7 @@ same-length-2 : tie.Need-same-length-2
 same-length-2 c = c .before .before .before .undo .kept .0 ∙ (c .before .before .before .before .before .before .before .before .before .scan .kept .1 .1 .1 .0)
 
 returns : tie.Need-returns
-returns c = absurd (true≢false (sym (c .before .before .before .before .before .before .if1 .taken) ∙ (c .before .before .before .before .before .before .before .before .before .scan .ensures .1)))
+returns c = absurd (true≢false (sym (c .before .before .before .before .before .before .if1 .taken) ∙ (c .before .before .before .before .before .before .before .before .before .scan .ensures .1 .fine)))
 
 mul-picks : tie.Need-mul-picks
 mul-picks c = search needs
@@ -78,9 +81,10 @@ backup-spec =
     mul-prev
     slice-read-prev
     cast-before
+    add-t20
     scan-requires
     undo-requires
-    cast-t30
+    cast-t31
     same-length
     same-length-2
     returns

@@ -1,11 +1,14 @@
 -- `evaluated` is the model's evaluation of a row whose value is q, whatever the rows remember. The test gives the model's case.
 -- Made by `places make` from answers/scan/evaluated.ans: edit that file, and not this one.
-use mathlib.Core.Path.{refl}
-use borrow.Author.Tests.{lt-ltb, le-ltb}
+use mathlib.Core.Path.{refl, sym, _∙_}
 use Rattle.model.specs.Rounds.{evaluateOn}
+use Rattle.backing.proofs.Scanning.{going-beats, going-picked, going-still}
 use borrow.Author.Needs.{needs}
 use Rattle.backing.proofs.scan.evaluated.Statement.{statement}
 use Rattle.backing.proofs.scan.evaluated.Tie as tie
+
+beats-requires : tie.Need-beats-requires
+beats-requires c κs = search needs
 
 cast-t6 : tie.Need-cast-t6
 cast-t6 c = search needs
@@ -18,11 +21,15 @@ add-t8 c = search needs
 
 returns : tie.Need-returns
 unfolding evaluateOn
-returns c = (λ l. rw (lt-ltb _ _ (c .before .if1 .taken)) refl, refl)
+returns c =
+    let h = c .before .before .before .pre .2 in
+    (λ l. rw (going-beats h _ ∙ sym (c .before .before .beats .ensures) ∙ (c .before .if1 .taken)) refl, going-picked _ _ (c .before .before .before .pre .0))
 
 returns-2 : tie.Need-returns-2
 unfolding evaluateOn
-returns-2 c = (λ l. rw (le-ltb _ _ (c .before .if1 .left)) refl, refl)
+returns-2 c =
+    let h = c .before .before .before .pre .2 in
+    (λ l. rw (going-beats h _ ∙ sym (c .before .before .beats .ensures) ∙ (c .before .if1 .left)) refl, going-still h)
 
 pub evaluated-spec : {M : Type 1} → statement M
-evaluated-spec = tie.close (tie.spec cast-t6 add-t7 add-t8 returns returns-2)
+evaluated-spec = tie.close (tie.spec beats-requires cast-t6 add-t7 add-t8 returns returns-2)

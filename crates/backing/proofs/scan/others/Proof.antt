@@ -16,7 +16,7 @@ abbrev Inv-loop : tie.InvT-loop
 Inv-loop file index values remembered₀ log₀ first end prev b₀ next₀ remembered log b next =
     ScanLeft file index values prev end
     (scanFrom (problemOf file) (byState values) prev first (end - first) (found (b₀ .best) (b₀ .pick) (b₀ .count) remembered₀))
-    (found (b .best) (b .pick) (b .count) remembered) (b .over) next
+    (found (b .best) (b .pick) (b .count) remembered) (b .below) (b .over) next
     × (length remembered ≡ length remembered₀)
 
 abbrev μ-loop : tie.MeasureT-loop
@@ -30,7 +30,7 @@ loop-holds c = (
     rows = c .before .before .before .pre .2;
     left = refl;
     room = c .before .before .before .pre .3;
-    fine = c .before .before .before .pre .4;
+    going = c .before .before .before .pre .4;
   },
   refl,
 )
@@ -43,7 +43,7 @@ consider-requires c κs = (
   c .before .before .before .before .loop .inv .0 .scannable,
   omega (arith, c .before .before .before .loop-test .taken, c .before .before .before .before .loop .inv .0 .rows),
   left-room (c .before .before .before .before .loop .inv .0),
-  c .before .before .before .before .loop .inv .0 .fine,
+  c .before .before .before .before .loop .inv .0 .going,
 )
 
 loop-less : tie.Need-loop-less Inv-loop μ-loop
@@ -66,7 +66,7 @@ same-length : tie.Need-same-length Inv-loop μ-loop
 same-length c = c .before .loop .inv .1
 
 returns : tie.Need-returns Inv-loop μ-loop
-returns c = (left-done (c .before .loop .inv .0) (c .loop-test .left), c .before .loop .inv .0 .fine)
+returns c = (left-done (c .before .loop .inv .0) (c .loop-test .left), c .before .loop .inv .0 .going)
 
 pub others-spec : {M : Type 1} → statement M
 others-spec =
