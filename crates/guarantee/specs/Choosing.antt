@@ -7,7 +7,7 @@ use native.Mathlib.Decide.{ℕ-discrete}
 use native.Mathlib.Nat.{eq-or-lt-of-le}
 use native.Mathlib.Omega.{arith}
 use mathlib.Core.Bool.{Bool, true, false, _&&_, _||_, not, true≢false}
-use mathlib.Core.Logic.{_⊎_, inl, inr}
+use mathlib.Core.Logic.{_⊎_, inl, inr, ⊎-elim}
 use lib.Dec.{ltb, eqb}
 use borrow.Author.Tests.{ltb-true, ltb-false, lt-ltb, le-ltb, eqb-true, eq-eqb, ne-eqb}
 use Rattle.model.specs.Limits.{giveUp}
@@ -15,7 +15,8 @@ use Rattle.model.specs.Problem.{Problem, giveUpCost, endRow, ownRow}
 use Rattle.model.specs.Value.{rowValue}
 use Rattle.model.specs.Rounds.{beats}
 use Rattle.guarantee.specs.WellFormed.{WellFormed}
-use Rattle.guarantee.specs.Rows.{own-low, own-high, own-within, rows-below-marks, giveUp-not-own}
+use Rattle.guarantee.specs.Walks.{rows-within}
+use Rattle.guarantee.specs.Rows.{own-low, own-high, own-within, row-no-mark, giveUp-not-own}
 
 pub record Chosen : Type 0 where
   pub best : ℕ
@@ -174,6 +175,61 @@ module _ (q : ℕ → ℕ) (prev : ℕ) where
       go true ih = rw (choose-idle q r c (h r (omega arith) (omega arith))) ih
       go false ih = ih
 
+  -- either nothing was picked, or what was picked beats what was best before
+  from-moved : (k r : ℕ) (c : Chosen) → (chooseFrom q prev r k c ≡ c) ⊎ (chooseFrom q prev r k c .best < threshold c)
+  from-moved k r c =
+      from-keeps (λ d. (d ≡ c) ⊎ (d .best < threshold c)) k r c (λ i d low high less old. inr (go i d less old)) (inl refl)
+    where
+      go : (i : ℕ) (d : Chosen) → q i < threshold d → (d ≡ c) ⊎ (d .best < threshold c) → q i < threshold c
+      go i d less (inl same) = rw same at less
+      go i d less (inr lower) = omega (arith, threshold-near d .1)
+
+  -- what is picked when the run has come to row r
+  data Placed (r : ℕ) (c : Chosen) : Type 0 where
+    at-mark : c .pick ≡ giveUp → Placed r c
+    at-prev : c .pick ≡ prev → Placed r c
+    at-earlier : c .pick < r → Placed r c
+
+  placed-later : (r : ℕ) (c : Chosen) → Placed r c → Placed (suc r) c
+  placed-later r c (at-mark e) = at-mark e
+  placed-later r c (at-prev e) = at-prev e
+  placed-later r c (at-earlier l) = at-earlier (omega arith)
+
+  -- where another row than before is picked, row i before it costs more than best
+  abbrev First : ℕ → Chosen → Type 0
+  First i d = (d .pick ≡ prev → ⊥) → i < d .pick → d .best < q i
+
+  placed-first : (r : ℕ) (c : Chosen) → threshold c ≤ q r → Placed (suc r) c → First r c
+  placed-first r c under (at-mark e) other before = omega (arith, threshold-giving-up c e)
+  placed-first r c under (at-prev e) other before = absurd (other e)
+  placed-first r c under (at-earlier l) other before = absurd (omega arith)
+
+  moved-first : (r : ℕ) (c d : Chosen) → threshold c ≤ q r → Placed (suc r) c → (d ≡ c) ⊎ (d .best < threshold c) → First r d
+  moved-first r c d under at (inl same) = rw same (placed-first r c under at)
+  moved-first r c d under at (inr lower) = λ other before. omega arith
+
+  from-first
+      : (k r : ℕ) (c : Chosen) → r + k ≤ giveUp → Placed r c → (i : ℕ) → r ≤ i → i < r + k → (i ≡ prev → ⊥)
+      → First i (chooseFrom q prev r k c)
+  unfolding chooseFrom chooseIf
+  from-first zero r c few at i low high ne = absurd (omega arith)
+  from-first (suc k) r c few at i low high ne =
+      go (eqb r prev) refl (eq-or-lt-of-le low) (λ d at′ l. from-first k (suc r) d (omega arith) at′ i l (omega arith) ne)
+    where
+      placed : Placed (suc r) (choose q r c)
+      placed = choose-keeps q r c (Placed (suc r)) (λ l. placed-later r c at) (λ l. at-earlier (omega arith))
+
+      go
+          : (b : Bool) → eqb r prev ≡ b → (r ≡ i) ⊎ (r < i)
+          → ((d : Chosen) → Placed (suc r) d → suc r ≤ i → First i (chooseFrom q prev (suc r) k d))
+          → First i (chooseFrom q prev (suc r) k (chooseIf (not b) q r c))
+      go true e (inl same) ih = absurd (ne (sym same ∙ eqb-true r prev e))
+      go true e (inr l) ih = ih c (placed-later r c at) l
+      go false e (inl same) ih =
+          rw (← same)
+          (moved-first r (choose q r c) _ (choose-under q r c (omega arith)) placed (from-moved k (suc r) (choose q r c)))
+      go false e (inr l) ih = ih (choose q r c) placed l
+
 -- one backup: where it lands
 module _ (p : Problem) (v : ℕ → ℕ) (s prev : ℕ) where
   pub choice-landed : Landed p v s (choice p v s prev)
@@ -205,20 +261,20 @@ same-chosen b e = λ i. record { best = b i; pick = e i }
 
 -- one backup in a file: nothing beats its choice
 module _ (p : Problem) (formed : WellFormed p) (v : ℕ → ℕ) (s : ℕ) (state : s < p .states) where
+  few : endRow p s ≤ giveUp
+  few = omega (arith, rows-within p formed s state, formed .rows-high)
+
   pub choice-unbeaten : (prev r : ℕ) → p .firstRow s ≤ r → r < endRow p s → threshold (choice p v s prev) ≤ rowValue p v r
   unfolding choice chooseIf
   choice-unbeaten prev r low high = go (ownRow p s prev) refl
     where
-      few : endRow p s ≤ giveUp
-      few = omega (arith, rows-below-marks p formed s state)
-
       go
           : (b : Bool) → ownRow p s prev ≡ b
           → threshold (chooseFrom (rowValue p v) prev (p .firstRow s) (p .rowCount s) (chooseIf b (rowValue p v) prev (givingUp p)))
           ≤ rowValue p v r
       go true e =
           from-under (rowValue p v) prev _ _ _ few
-          (λ a b. choose-under (rowValue p v) prev (givingUp p) (omega (arith, few, own-high p s prev e))) r low high
+          (λ a b. choose-under (rowValue p v) prev (givingUp p) (omega (arith, row-no-mark p formed s prev state e))) r low high
       go false e =
           from-under (rowValue p v) prev _ _ _ few (λ a b. absurd (true≢false (sym (own-within p s prev a b) ∙ e))) r low high
 
@@ -246,6 +302,36 @@ module _ (p : Problem) (formed : WellFormed p) (v : ℕ → ℕ) (s : ℕ) (stat
   pub choice-again : (prev : ℕ) → choice p v s (choice p v s prev .pick) ≡ choice p v s prev
   choice-again prev = landed-again (choice p v s prev) (choice-landed p v s prev) (choice-unbeaten prev)
 
+  -- "among rows the earlier pick": where the row picked before is worth best, it is picked again
+  pub pick-stays
+      : (prev : ℕ) → ownRow p s prev ≡ true → rowValue p v prev ≤ choice p v s prev .best → choice p v s prev .pick ≡ prev
+  pick-stays prev own least =
+      let row = threshold-row (pickOf (rowValue p v prev) prev) (omega (arith, row-no-mark p formed s prev state own)) in
+      ap (λ c. c .pick)
+      (landed-again (pickOf (rowValue p v prev) prev) (at-row own refl (omega (arith, choice-high p v s prev)))
+      (λ r low high. omega (arith, row, choice-under prev r low high)))
+
+  -- "and then row order still win": where another is picked, each row before it costs more than best
+  pub order-wins
+      : (prev : ℕ) → (choice p v s prev .pick ≡ prev → ⊥) → (r : ℕ) → ownRow p s r ≡ true → r < choice p v s prev .pick
+      → choice p v s prev .best < rowValue p v r
+  unfolding choice chooseIf
+  order-wins prev other r own before = go (ℕ-discrete r prev)
+    where
+      begun : (b : Bool) → Placed (rowValue p v) prev (p .firstRow s) (chooseIf b (rowValue p v) prev (givingUp p))
+      begun true =
+          choose-keeps (rowValue p v) prev (givingUp p) (Placed (rowValue p v) prev (p .firstRow s)) (λ l. at-mark refl)
+          (λ l. at-prev refl)
+      begun false = at-mark refl
+
+      go : Dec (r ≡ prev) → choice p v s prev .best < rowValue p v r
+      go (yes at) =
+          ⊎-elim (λ same. absurd (other (pick-stays prev (rw at at own) (omega (arith, ap (rowValue p v) at))))) (λ l. l)
+          (eq-or-lt-of-le (choice-under prev r (own-low p s r own) (own-high p s r own)))
+      go (no off) =
+          from-first (rowValue p v) prev _ _ _ few (begun (ownRow p s prev)) r (own-low p s r own) (own-high p s r own) off
+          other before
+
   -- E1: "a stick is given up only when that is cheaper": where the choice gives up, every own row costs more than 1000 × D
   pub gives-up-dear
       : (prev : ℕ) → choice p v s prev .pick ≡ giveUp → (r : ℕ) → ownRow p s r ≡ true → giveUpCost p < rowValue p v r
@@ -254,4 +340,4 @@ module _ (p : Problem) (formed : WellFormed p) (v : ℕ → ℕ) (s : ℕ) (stat
     where
       go : (c : Chosen) → c .pick ≡ giveUp → Landed p v s c → threshold c ≤ rowValue p v r → giveUpCost p < rowValue p v r
       go c g (at-giving-up e b) l = omega (arith, threshold-giving-up c g)
-      go c g (at-row own b high) l = absurd (omega (arith, own-high p s (c .pick) own, rows-below-marks p formed s state))
+      go c g (at-row own b high) l = absurd (omega (arith, row-no-mark p formed s (c .pick) state own))

@@ -24,7 +24,8 @@ use Rattle.guarantee.specs.Walks.{reached-marked, walk-whole, listed-rea
 use Rattle.guarantee.specs.Walks.{least-low, least-cheapest}
 use Rattle.guarantee.specs.Accepted.{Accepts, audit-exactly, audit-table}
 use Rattle.guarantee.specs.Closeness.{audit-lower, audit-close}
-use Rattle.guarantee.specs.Sound.{Allowed, best-is-bellman, scan-gives-up, scan-takes-row, backup-rises}
+use Rattle.guarantee.specs.Sound.{Allowed, best-is-bellman, backup-rises}
+use Rattle.guarantee.specs.Sound.{scan-gives-up, scan-takes-row, scan-pick-stays, scan-order-wins}
 use Rattle.guarantee.specs.Backups.{machineOf, run-keeps}
 use Rattle.guarantee.specs.Allowances.{rounds-enough-fit}
 use Rattle.guarantee.specs.Beyond.{Beyond, solution-beyond}
@@ -184,6 +185,23 @@ module _ (f : List ℕ) (budget : ℕ) (t : Tables) (file : fileQuestions f ≡ 
       → ownRow (problemOf f) s (scanOf (problemOf f) s m .pick) ≡ true
   row-beats-giving-up {s = s} {m = m} met =
       scan-takes-row (problemOf f) (well-formed f file) s m (turn-open (underway met) .state) (underway met .sound)
+
+  -- "among rows the earlier pick and then row order still win": where the row picked before is worth best it is picked again; where
+  -- another is picked, each row before that one costs more than best
+  pub earlier-pick-wins
+      : {s : ℕ} {rest : List ℕ} {m : Machine} → Met (problemOf f) t (s ∷ rest) m
+      → ownRow (problemOf f) s (getD (m .picks) s 0) ≡ true
+      → rowValue (problemOf f) (byState (m .values)) (getD (m .picks) s 0) ≤ scanOf (problemOf f) s m .best
+      → scanOf (problemOf f) s m .pick ≡ getD (m .picks) s 0
+  earlier-pick-wins {s = s} {m = m} met =
+      scan-pick-stays (problemOf f) (well-formed f file) s m (turn-open (underway met) .state) (underway met .sound)
+
+  pub row-order-wins
+      : {s : ℕ} {rest : List ℕ} {m : Machine} → Met (problemOf f) t (s ∷ rest) m
+      → (scanOf (problemOf f) s m .pick ≡ getD (m .picks) s 0 → ⊥) → (r : ℕ) → ownRow (problemOf f) s r ≡ true
+      → r < scanOf (problemOf f) s m .pick → scanOf (problemOf f) s m .best < rowValue (problemOf f) (byState (m .values)) r
+  row-order-wins {s = s} {m = m} met =
+      scan-order-wins (problemOf f) (well-formed f file) s m (turn-open (underway met) .state) (underway met .sound)
 
   -- remembered values never exceed row values
   pub remembered-low

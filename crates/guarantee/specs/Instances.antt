@@ -18,7 +18,8 @@ use Rattle.model.specs.Value.{byState, rowValue, weightedSum}
 use Rattle.model.specs.Sections.{statesAt, rowsAt, outcomesAt, outcomesFrom, secondsOn, problemOf}
 use Rattle.model.specs.Questions.{passes, fileQuestions}
 use Rattle.model.specs.Walk.{Reached, at-start, visitOutcomes, visitState, next, walk, pickCost, leastCost}
-use Rattle.model.specs.Rounds.{Machine, fillTo, machineStart, walked, runFrom, runOf, scanOf, bellman}
+use Rattle.model.specs.Rounds.{Machine, fillTo, machineStart, walked, runFrom, runOf, scanOf, bellman, beats, evaluateOn}
+use Rattle.model.specs.Rounds.{considerOn, consider, considerIf, scanFrom, scan, raiseOn, settle, backup}
 use Rattle.model.specs.Solution.{fine, Tables, Solution, solved, spent, refused, solutionOf, solveQuestions, solution}
 use Rattle.model.specs.Audit.{accepted, refused as audit-refused, audit}
 use Rattle.model.specs.Cover.{Choice, Cover, planOf, allowance, allowanceTo, openTo}
@@ -30,7 +31,7 @@ use Rattle.guarantee.specs.Closeness.{audit-close}
 use Rattle.guarantee.specs.Solutions.{solution-refused}
 use Rattle.guarantee.specs.Guarantee.{closeness-lower, ending, acceptance, Met, starts, walks, built-on-bellman}
 use Rattle.guarantee.specs.Guarantee.{runs-the-rounds, rounds-fit, giving-up-refused, least-at-most}
-use Rattle.guarantee.specs.Guarantee.{plan-gives-up-when-cheaper, row-beats-giving-up}
+use Rattle.guarantee.specs.Guarantee.{backs-up, plan-gives-up-when-cheaper, row-beats-giving-up, earlier-pick-wins}
 
 abbrev pub problemP : Problem
 problemP = problemOf fileP
@@ -170,6 +171,17 @@ pub tied-taken : ownRow (problemOf tied) 0 (scanOf (problemOf tied) 0 firstTied 
 unfolding problemOf statesAt rowsAt sumTo u16At u32At
 tied-taken =
     row-beats-giving-up tied planRounds (lent 2) (requested-hold .1 .1 .1 .1 .1 .1 .1 .0) tied-lent tied-met 0 refl tied-cheap
+
+-- and the second round, in which row 0 is the pick before, picks it again at the tie
+abbrev pub secondTied : Machine
+secondTied = walked (problemOf tied) (backup (problemOf tied) (problemOf tied .tolerance) 0 firstTied)
+
+pub tied-again : scanOf (problemOf tied) 0 secondTied .pick ≡ 0
+unfolding walk visitState visitOutcomes next machineStart fillTo backup settle raiseOn scan scanFrom consider considerIf considerOn
+    beats evaluateOn problemOf statesAt rowsAt outcomesAt outcomesFrom secondsOn sumTo u16At u32At rowValue weightedSum
+tied-again =
+    earlier-pick-wins tied planRounds (lent 2) (requested-hold .1 .1 .1 .1 .1 .1 .1 .0) tied-lent (walks (backs-up tied-met)) refl
+    (leb-true _ _ refl)
 
 -- a refusal: "Empty file: 1, place 0"
 pub empty-refused : (budget : ℕ) (t : Tables) → solution [] budget t .answer ≡ refused 1 0

@@ -28,9 +28,6 @@ module _ (p : Problem) (formed : WellFormed p) where
   row-of-file s r l h = omega (arith, rows-within p formed s l)
 
   -- 65,535 and 65,534 are no rows
-  pub rows-below-marks : (s : ℕ) → s < p .states → endRow p s ≤ noPick
-  rows-below-marks s l = omega (arith, rows-within p formed s l, formed .rows-high)
-
   pub row-no-mark : (s r : ℕ) → s < p .states → ownRow p s r ≡ true → r < noPick
   row-no-mark s r l h = omega (arith, own-row p formed s r l h, formed .rows-high)
 

@@ -1,6 +1,6 @@
 -- Sound tables, an invariant of every backup: values at most 1000 × D and at most every own row's value, memories at most row values.
 -- Values only rise, so row values only rise, so a remembered value stays a lower bound.
-use mathlib.Core.Path.{_≡_, refl, sym, _∙_, ap}
+use mathlib.Core.Path.{_≡_, refl, sym, _∙_, ap, subst}
 use Prim.Native.Nat.{ℕ, _≤_, _<_}
 use native.Mathlib.Nat.{le-trans}
 use native.Mathlib.Omega.{arith}
@@ -16,7 +16,8 @@ use Rattle.guarantee.specs.Values.{rowValue-rises-all, rowValue-same-sta
 use Rattle.guarantee.specs.Undercuts.{NoUndercut}
 use Rattle.guarantee.specs.Tables.{stored, fill-length, fill-entry}
 use Rattle.guarantee.specs.Rows.{row-of-file}
-use Rattle.guarantee.specs.Choosing.{choice, Landed, at-giving-up, at-row, choice-landed, gives-up-dear}
+use Rattle.guarantee.specs.Choosing.{choice, Landed, at-giving-up, at-row}
+use Rattle.guarantee.specs.Choosing.{choice-landed, pick-stays, order-wins, gives-up-dear}
 use Rattle.guarantee.specs.Scans.{Memory, chosen, Scanned, scanned}
 use Rattle.guarantee.specs.Bellman.{bellman-high, bellman-under, bellman-greatest, choice-bellman}
 
@@ -124,6 +125,23 @@ module _ (p : Problem) (formed : WellFormed p) where
         go : Landed p (byState (m .values)) s (chosen (scanOf p s m)) → ownRow p s (scanOf p s m .pick) ≡ true
         go (at-giving-up e b) = absurd (omega (arith, scan-gives-up e r own))
         go (at-row picked b high) = picked
+
+    -- E1: the row picked before stays where it is worth best; where another is picked, each row before that one costs more
+    pub scan-pick-stays
+        : ownRow p s (getD (m .picks) s 0) ≡ true → rowValue p (byState (m .values)) (getD (m .picks) s 0) ≤ scanOf p s m .best
+        → scanOf p s m .pick ≡ getD (m .picks) s 0
+    scan-pick-stays own =
+        subst (λ c. rowValue p (byState (m .values)) (getD (m .picks) s 0) ≤ c .best → c .pick ≡ getD (m .picks) s 0)
+        (sym (scan-law .ends)) (pick-stays p formed (byState (m .values)) s state (getD (m .picks) s 0) own)
+
+    pub scan-order-wins
+        : (scanOf p s m .pick ≡ getD (m .picks) s 0 → ⊥) → (r : ℕ) → ownRow p s r ≡ true → r < scanOf p s m .pick
+        → scanOf p s m .best < rowValue p (byState (m .values)) r
+    scan-order-wins =
+        subst
+        (λ c. (c .pick ≡ getD (m .picks) s 0 → ⊥) → (r : ℕ) → ownRow p s r ≡ true → r < c .pick
+        → c .best < rowValue p (byState (m .values)) r)
+        (sym (scan-law .ends)) (order-wins p formed (byState (m .values)) s state (getD (m .picks) s 0))
 
     -- values only rise
     pub backup-rises : (e : ℕ) (t : ℕ) → getD (m .values) t 0 ≤ getD (backup p e s m .values) t 0

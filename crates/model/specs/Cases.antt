@@ -27,12 +27,29 @@ use Rattle.model.specs.Lines.{codes, planText, answerLine, stateLines, s
 use Rattle.model.specs.Lines.{decimal, decimalFrom, auditLine}
 use Rattle.model.specs.TableFiles.{bytes32, entries16, numberBytes, tableBytes, listTo}
 
--- "File P: start 0, e 1, D 5,000, all H 0; states 0 (two rows), 1 (one row), 2 goal."
+-- the parts of a small file, each with what follows it: settings with start 0, e 1 and D in two bytes; a state that is no goal,
+-- H 0, with so many rows; a goal; a row of so many seconds with one outcome; an outcome of weight 1,000
+abbrev pub settings : ℕ → ℕ → List ℕ → List ℕ
+settings low high rest = 3 ∷ 0 ∷ 0 ∷ 0 ∷ 0 ∷ 0 ∷ 1 ∷ 0 ∷ 0 ∷ 0 ∷ low ∷ high ∷ 0 ∷ 0 ∷ rest
+
+abbrev pub state : ℕ → List ℕ → List ℕ
+state rows rest = 0 ∷ 0 ∷ 0 ∷ 0 ∷ rows ∷ 0 ∷ rest
+
+abbrev pub goal : List ℕ → List ℕ
+goal rest = 0 ∷ 0 ∷ 0 ∷ 0 ∷ 0 ∷ 1 ∷ rest
+
+abbrev pub row : ℕ → List ℕ → List ℕ
+row seconds rest = 0 ∷ 1 ∷ seconds ∷ 0 ∷ rest
+
+abbrev pub to : ℕ → List ℕ → List ℕ
+to s rest = s ∷ 0 ∷ 232 ∷ 3 ∷ rest
+
+-- "File P: start 0, e 1, D 5,000, all H 0; states 0 (two rows), 1 (one row), 2 goal." 5,000 is 19 × 256 + 136
 abbrev pub settingsP : List ℕ → List ℕ
-settingsP rest = 3 ∷ 0 ∷ 0 ∷ 0 ∷ 0 ∷ 0 ∷ 1 ∷ 0 ∷ 0 ∷ 0 ∷ 136 ∷ 19 ∷ 0 ∷ 0 ∷ rest
+settingsP rest = settings 136 19 rest
 
 abbrev pub statesP : List ℕ → List ℕ
-statesP rest = 3 ∷ 0 ∷ 0 ∷ 0 ∷ 0 ∷ 0 ∷ 2 ∷ 0 ∷ 0 ∷ 0 ∷ 0 ∷ 0 ∷ 1 ∷ 0 ∷ 0 ∷ 0 ∷ 0 ∷ 0 ∷ 0 ∷ 1 ∷ rest
+statesP rest = 3 ∷ 0 ∷ state 2 (state 1 (goal rest))
 
 -- "Row 0: 100 s, to 1 weight 900, to 2 weight 100. Row 1: rate 1,000, to 2 weight 1,000. Row 2: 300 s, to 2 weight 1,000."
 abbrev pub rowsP : List ℕ → List ℕ
@@ -60,40 +77,23 @@ estimateP low = set (changed 16 low 134) 18 1
 
 -- "One state, no goal, no rows, e 1, D 1, H 0"
 abbrev pub oneState : List ℕ
-oneState = 3 ∷ 0 ∷ 0 ∷ 0 ∷ 0 ∷ 0 ∷ 1 ∷ 0 ∷ 0 ∷ 0 ∷ 1 ∷ 0 ∷ 0 ∷ 0 ∷ 1 ∷ 0 ∷ 0 ∷ 0 ∷ 0 ∷ 0 ∷ 0 ∷ 0 ∷ 0 ∷ 0 ∷ 0 ∷ 0 ∷ []
+oneState = settings 1 0 (1 ∷ 0 ∷ state 0 (0 ∷ 0 ∷ 0 ∷ 0 ∷ []))
 
 -- P with its penalty changed
 abbrev pub penaltyP : ℕ → ℕ → List ℕ
 penaltyP low high = changed 10 low high
 
--- the parts of a small file, each with what follows it: settings with start 0, e 1 and a penalty; a state that is no goal, H 0, with
--- so many rows; a goal; a row of so many seconds with one outcome; an outcome of weight 1,000
-abbrev pub penalty : ℕ → List ℕ → List ℕ
-penalty d rest = 3 ∷ 0 ∷ 0 ∷ 0 ∷ 0 ∷ 0 ∷ 1 ∷ 0 ∷ 0 ∷ 0 ∷ d ∷ 0 ∷ 0 ∷ 0 ∷ rest
-
-abbrev pub state : ℕ → List ℕ → List ℕ
-state rows rest = 0 ∷ 0 ∷ 0 ∷ 0 ∷ rows ∷ 0 ∷ rest
-
-abbrev pub goal : List ℕ → List ℕ
-goal rest = 0 ∷ 0 ∷ 0 ∷ 0 ∷ 0 ∷ 1 ∷ rest
-
-abbrev pub row : ℕ → List ℕ → List ℕ
-row seconds rest = 0 ∷ 1 ∷ seconds ∷ 0 ∷ rest
-
-abbrev pub to : ℕ → List ℕ → List ℕ
-to s rest = s ∷ 0 ∷ 232 ∷ 3 ∷ rest
-
 -- D 100: state 0 has one row, or two, of 100 s to the goal
 abbrev pub tied : List ℕ
-tied = penalty 100 (2 ∷ 0 ∷ state 1 (goal (1 ∷ 0 ∷ row 100 (1 ∷ 0 ∷ to 1 []))))
+tied = settings 100 0 (2 ∷ 0 ∷ state 1 (goal (1 ∷ 0 ∷ row 100 (1 ∷ 0 ∷ to 1 []))))
 
 abbrev pub tiedTwice : List ℕ
-tiedTwice = penalty 100 (2 ∷ 0 ∷ state 2 (goal (2 ∷ 0 ∷ row 100 (row 100 (2 ∷ 0 ∷ to 1 (to 1 []))))))
+tiedTwice = settings 100 0 (2 ∷ 0 ∷ state 2 (goal (2 ∷ 0 ∷ row 100 (row 100 (2 ∷ 0 ∷ to 1 (to 1 []))))))
 
 -- D 200: from state 0 row 0, 200 s to the goal, or row 1, 100 s to state 1, whose row 2 is 100 s to the goal
 abbrev pub tiedLater : List ℕ
 tiedLater =
-    penalty 200
+    settings 200 0
     (3 ∷ 0 ∷ state 2 (state 1 (goal (3 ∷ 0 ∷ row 200 (row 100 (row 100 (3 ∷ 0 ∷ to 2 (to 1 (to 2 [])))))))))
 
 -- four lent tables of n entries, and what `plan` does with a file
