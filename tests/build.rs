@@ -5,8 +5,15 @@ use std::path::PathBuf;
 
 /// The programs that call the product's C interface, through `library.rs`. Each links as soon as the
 /// archive has the functions that it calls.
-const CALLERS: [&str; 5] =
-    ["compare_reading", "compare_solving", "compare_audit", "bench", "measure_stack"];
+const CALLERS: [&str; 7] = [
+    "compare_reading",
+    "compare_solving",
+    "compare_audit",
+    "compare_following",
+    "bench",
+    "bench_following",
+    "measure_stack",
+];
 
 /// The folder of `libcapi.a`: the one named in `CAPI_DIR`, or the repository's own.
 fn archive_folder() -> PathBuf {

@@ -11,10 +11,11 @@
 
 /* What the functions return. */
 enum {
-    CUULIPSO_REFUSED = 0,   /* answer: question, place, and for an audit the excess, else 0 */
+    CUULIPSO_REFUSED = 0,   /* answer: question, place, and of an audit, an opening or a report the excess, else 0 */
     CUULIPSO_SOLVED = 1,    /* answer: rounds, evaluations, C */
     CUULIPSO_SPENT = 2,     /* answer: rounds, evaluations, 0 */
     CUULIPSO_PASSED = 3,    /* of a check, answer: 0, 0, 0; of an audit: accepted, answer: C, 0, 0 */
+    CUULIPSO_DONE = 3,      /* of an opening or a report, answer: state, moves, seconds of the record after it */
     CUULIPSO_TOO_SHORT = 4  /* the answer's table has fewer than 3 entries; nothing was done */
 };
 
@@ -47,5 +48,38 @@ uint8_t cuulipso_audit(const uint8_t *file, size_t file_length,
                        const uint32_t *values, size_t values_length,
                        const uint16_t *picks, size_t picks_length,
                        int64_t *answer, size_t answer_length);
+
+/* A follower's record of a shift: the state it is in, the moves made, the seconds spent, and the mark that giving up sets: 0 clear,
+ * anything else set. It is the caller's, and is lent as a pointer to one that overlaps no table. */
+struct cuulipso_record {
+    uint64_t state;
+    uint64_t moves;
+    uint64_t seconds;
+    uint64_t mark;
+};
+
+/* A report meets question 21 at so many moves or more, or above so many seconds. */
+#define CUULIPSO_MOVES UINT64_C(1000000)
+#define CUULIPSO_SECONDS UINT64_C(400000000000)
+
+/* Opening and each report put the audit's questions first, and change neither the file nor the tables. A refusal leaves the record as it
+ * was, and so does an answer's table that is too short. */
+
+/* Opens a follower: the record becomes the start state, no moves, no seconds, the mark clear, whatever it held. */
+uint8_t cuulipso_open(const uint8_t *file, size_t file_length,
+                      const uint32_t *values, size_t values_length,
+                      const uint16_t *picks, size_t picks_length,
+                      struct cuulipso_record *record,
+                      int64_t *answer, size_t answer_length);
+
+/* Reports which outcome of the picked row occurred, counted from 0: the record moves to its successor, one move and the row's seconds on.
+ * A state that gives up has outcome 0 only: one move, D seconds, the same state, and the mark is set. After the audit's questions a
+ * report meets 20 where the mark is set or the state is a goal, 21 at the limits above, and 22 where the state is not in the file, has no
+ * pick of its own, or its pick has no such outcome; place 0, excess 0. */
+uint8_t cuulipso_report(const uint8_t *file, size_t file_length,
+                        const uint32_t *values, size_t values_length,
+                        const uint16_t *picks, size_t picks_length,
+                        uint64_t outcome, struct cuulipso_record *record,
+                        int64_t *answer, size_t answer_length);
 
 #endif

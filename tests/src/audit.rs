@@ -68,15 +68,15 @@ fn ask_rows(problem: &Problem, values: &[u32]) -> Option<Verdict> {
 }
 
 /// What a pick stands for at a state: "that state's row or 65,535", or neither.
-#[derive(Clone, Copy, PartialEq, Eq)]
-enum Pick {
+#[derive(Clone, Copy, Debug, PartialEq, Eq)]
+pub enum Pick {
     Row(usize),
     GiveUp,
     Neither,
 }
 
 /// The meaning of a state's pick.
-fn pick_of(problem: &Problem, picks: &[u16], state: usize) -> Pick {
+pub fn pick_of(problem: &Problem, picks: &[u16], state: usize) -> Pick {
     let pick = usize::from(picks[state]);
     if problem.states[state].rows().contains(&pick) {
         return Pick::Row(pick);
@@ -89,7 +89,7 @@ fn pick_of(problem: &Problem, picks: &[u16], state: usize) -> Pick {
 
 /// "Reached states: the start, and successors of a reached state's picked row. A goal, or a state
 /// whose pick is not one of its own rows, adds none."
-fn reached_states(problem: &Problem, picks: &[u16]) -> Vec<bool> {
+pub fn reached_states(problem: &Problem, picks: &[u16]) -> Vec<bool> {
     let mut reached = vec![false; problem.states.len()];
     let mut ahead = vec![problem.start];
     reached[problem.start] = true;

@@ -2,7 +2,7 @@
 
 use crate::audit::{audit_file, Verdict};
 use crate::encode::Draft;
-use crate::examples::{file_p, one_state};
+use crate::examples::{file_p, one_state, p_with_penalty};
 use crate::limits::*;
 use crate::listing::plan_lines;
 use crate::problem::{average, seconds_of, Outcome, Problem, Refusal};
@@ -14,7 +14,7 @@ fn refusal(draft: &Draft) -> Option<Refusal> {
 }
 
 /// A run with as many rounds as `plan` has, and its tables.
-fn run(draft: &Draft) -> (Run, OwnedTables) {
+pub fn run(draft: &Draft) -> (Run, OwnedTables) {
     let problem = Problem::read(&draft.bytes()).expect("whole");
     let mut tables = OwnedTables::new(&problem);
     (solve(&problem, PLAN_ROUNDS, tables.lend()), tables)
@@ -142,13 +142,6 @@ fn straight(penalty: u32, rows: &[u16]) -> Draft {
     draft.add_state();
     rows.iter().for_each(|&seconds| draft.add_row(KIND_SECONDS, seconds, &[(1, 1_000)]));
     draft.add_goal();
-    draft
-}
-
-/// P with another penalty.
-fn p_with_penalty(penalty: u32) -> Draft {
-    let mut draft = file_p();
-    draft.settings[2] = penalty;
     draft
 }
 

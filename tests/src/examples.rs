@@ -21,6 +21,13 @@ pub fn file_p() -> Draft {
     draft_of(0)
 }
 
+/// P with another penalty; with 100 s it gives up at the start.
+pub fn p_with_penalty(penalty: u32) -> Draft {
+    let mut draft = file_p();
+    draft.settings[2] = penalty;
+    draft
+}
+
 /// "One state, no goal, no rows, e 1, D 1, H 0."
 pub fn one_state() -> Draft {
     draft_of(1)

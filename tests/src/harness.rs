@@ -1,12 +1,13 @@
 //! What the comparison programs share: a count of the questions met, a list of differences, noise
-//! for lent tables, and the programs' arguments.
+//! for lent tables, lengths for lent answers, and the programs' arguments.
 
+use crate::library::ANSWER;
 use crate::random::Random;
 use std::fmt::Debug;
 use std::process::ExitCode;
 
-/// One past the highest question of document 01.
-const QUESTIONS: usize = 20;
+/// One past the highest question of document 01 and of the requests that are done.
+const QUESTIONS: usize = 23;
 /// Differences beyond these are counted and not printed.
 const MOST_PRINTED: u64 = 10;
 
@@ -122,6 +123,15 @@ noise!(u8, u16, u32, u64, i64);
 /// A table of noise.
 pub fn noise<T: Noise>(random: &mut Random, length: usize) -> Vec<T> {
     (0..length).map(|_| T::from_bits(random.bits())).collect()
+}
+
+/// A length for a lent answer: mostly what it needs, sometimes more, sometimes less.
+pub fn answer_length(random: &mut Random) -> usize {
+    match random.below(12) {
+        0 => random.below(ANSWER),
+        1..=2 => ANSWER + 1 + random.below(2),
+        _ => ANSWER,
+    }
 }
 
 /// The program's argument at a place, counted from 1, as a number, or what stands in for it.

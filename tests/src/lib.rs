@@ -1,5 +1,5 @@
-//! Documents 01 and 02 in Rust, written from the papers and apart from the product: a reader, a solver and
-//! an audit, with made-up problem files to compare the product on.
+//! Documents 01 and 02 in Rust, written from the papers and apart from the product: a reader, a solver,
+//! an audit and a follower, with made-up problem files to compare the product on.
 //!
 //! The programs under `src/bin` hold the product's answers against these.
 
@@ -7,6 +7,7 @@ pub mod audit;
 pub mod damage;
 pub mod encode;
 pub mod examples;
+pub mod follower;
 pub mod harness;
 pub mod library;
 pub mod limits;
@@ -16,9 +17,11 @@ pub mod made;
 pub mod plain;
 pub mod problem;
 pub mod programs;
+pub mod proposal;
 pub mod random;
 pub mod solver;
 pub mod table_files;
+pub mod timing;
 pub mod written;
 
 #[cfg(test)]

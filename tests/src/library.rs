@@ -3,6 +3,7 @@
 //! The functions are inlined into the programs that call them, and only those ask for the archive:
 //! `build.rs` names them.
 
+use crate::follower::{Followed, Record};
 use crate::solver::{Answer, Tables};
 
 extern "C" {
@@ -44,12 +45,35 @@ extern "C" {
         answer: *mut i64,
         answer_length: usize,
     ) -> u8;
+    fn cuulipso_open(
+        file: *const u8,
+        file_length: usize,
+        values: *const u32,
+        values_length: usize,
+        picks: *const u16,
+        picks_length: usize,
+        record: *mut Record,
+        answer: *mut i64,
+        answer_length: usize,
+    ) -> u8;
+    fn cuulipso_report(
+        file: *const u8,
+        file_length: usize,
+        values: *const u32,
+        values_length: usize,
+        picks: *const u16,
+        picks_length: usize,
+        outcome: u64,
+        record: *mut Record,
+        answer: *mut i64,
+        answer_length: usize,
+    ) -> u8;
 }
 
 /// The entries that an answer needs.
 pub const ANSWER: usize = 3;
 
-/// The code of a file, of a run, or of an audit that is refused.
+/// The code of a file, a run, an audit, an opening or a report that is refused.
 pub const REFUSED: u8 = 0;
 /// The code of a solved run.
 pub const SOLVED: u8 = 1;
@@ -59,6 +83,8 @@ pub const SPENT: u8 = 2;
 pub const PASSED: u8 = 3;
 /// The code of an audit that accepts.
 pub const ACCEPTED: u8 = 3;
+/// The code of an opening or a report that is done.
+pub const DONE: u8 = 3;
 /// The code of an answer lent too short.
 pub const TOO_SHORT: u8 = 4;
 
@@ -116,6 +142,56 @@ pub fn audit(file: &[u8], values: &mut [u32], picks: &mut [u16], answer: &mut [i
     }
 }
 
+/// The product's opening of a follower. Its tables are lent as those of an audit are.
+#[inline]
+pub fn open(
+    file: &[u8],
+    values: &mut [u32],
+    picks: &mut [u16],
+    record: &mut Record,
+    answer: &mut [i64],
+) -> u8 {
+    unsafe {
+        cuulipso_open(
+            file.as_ptr(),
+            file.len(),
+            values.as_mut_ptr(),
+            values.len(),
+            picks.as_mut_ptr(),
+            picks.len(),
+            record,
+            answer.as_mut_ptr(),
+            answer.len(),
+        )
+    }
+}
+
+/// The product's report of an outcome.
+#[inline]
+pub fn report(
+    file: &[u8],
+    values: &mut [u32],
+    picks: &mut [u16],
+    outcome: u64,
+    record: &mut Record,
+    answer: &mut [i64],
+) -> u8 {
+    unsafe {
+        cuulipso_report(
+            file.as_ptr(),
+            file.len(),
+            values.as_mut_ptr(),
+            values.len(),
+            picks.as_mut_ptr(),
+            picks.len(),
+            outcome,
+            record,
+            answer.as_mut_ptr(),
+            answer.len(),
+        )
+    }
+}
+
 /// The code and the answer that the paper asks of a run.
 pub fn asked_of_run(answer: Answer) -> (u8, [u64; ANSWER]) {
     match answer {
@@ -124,6 +200,16 @@ pub fn asked_of_run(answer: Answer) -> (u8, [u64; ANSWER]) {
         }
         Answer::Spent { rounds, evaluations } => (SPENT, [rounds, evaluations, 0]),
         Answer::Refused(refusal) => (REFUSED, [refusal.question, refusal.place, 0]),
+    }
+}
+
+/// The code and the answer that the paper asks of an opening or a report which leaves a record.
+pub fn asked_of_follower(followed: Followed, record: &Record) -> (u8, [i64; ANSWER]) {
+    match followed {
+        Followed::Done => (DONE, [record.state, record.moves, record.seconds].map(|n| n as i64)),
+        Followed::Refused { question, place, excess } => {
+            (REFUSED, [question as i64, place as i64, excess])
+        }
     }
 }
 

@@ -1,4 +1,4 @@
-//! The numbers of document 01, each under a name.
+//! The numbers of documents 01 and 02, each under a name.
 
 /// "A tick is 1/1000 second."
 pub const TICKS: u32 = 1_000;
@@ -53,3 +53,8 @@ pub const NO_PICK: u16 = 65_534;
 pub const MAX_BUDGET: u64 = 2_000_000_000_000_000;
 /// "The program `plan` runs up to 1,000,000 rounds."
 pub const PLAN_ROUNDS: u64 = 1_000_000;
+
+/// E2: "21 at a million moves or more".
+pub const MAX_MOVES: u64 = 1_000_000;
+/// E2: "or above 400,000,000,000 seconds".
+pub const MAX_SECONDS: u64 = 400_000_000_000;

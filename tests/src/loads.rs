@@ -29,6 +29,11 @@ pub const LOADS: [Load; 4] = [
 impl Load {
     /// The load's file for a number of states.
     pub fn file(&self, random: &mut Random, states: usize) -> Vec<u8> {
+        self.draft(random, states).bytes()
+    }
+
+    /// The draft behind it.
+    pub fn draft(&self, random: &mut Random, states: usize) -> Draft {
         let mut draft = Draft::new(0, 1, PENALTY);
         for state in 0..states - 1 {
             draft.add_state();
@@ -39,7 +44,7 @@ impl Load {
             }
         }
         draft.add_goal();
-        draft.bytes()
+        draft
     }
 }
 

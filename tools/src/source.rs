@@ -31,7 +31,8 @@ pub fn loops(text: &str, name: &str) -> Option<Vec<Loop>> {
         .filter(|&k| tokens[k] == "fn" && tokens.get(k + 1).is_some_and(|t| t == name))
         .collect();
     let [head] = heads[..] else { return None };
-    let open = head + 2;
+    // past the lifetimes, where there are any
+    let open = (head + 2..tokens.len()).find(|&k| tokens[k] == "(")?;
     let close = matching(&tokens, open)?;
     let parameters = pattern_names(&tokens[open + 1..close], true);
     let body = body_start(&tokens, close + 1)?;
@@ -309,6 +310,12 @@ mod tests {
         assert_eq!(scopes, ["a b z x w i", "a b z x w i k", "a b z x w i k n", "a b z x w i s"]);
         assert_eq!(found[0].label.as_deref(), Some("out"));
         assert!(loops(TEXT, "absent").is_none());
+    }
+
+    #[test]
+    fn lifetimes_stand_before_the_parameters() {
+        let found = loops("fn f<'a>(s: &'a [u8], n: u8) -> &'a [u8] { while n < 1 {} s }", "f").unwrap();
+        assert_eq!(names_of(&found[0].scope), "s n");
     }
 
     #[test]

@@ -2,7 +2,7 @@
 use mathlib.Core.Path.{_≡_, refl, _∙_, ap}
 use Prim.Native.Nat.{ℕ, _≤_, _<_}
 use native.Mathlib.Omega.{arith}
-use mathlib.Core.Bool.{true, false}
+use mathlib.Core.Bool.{true, false, true≢false}
 use mathlib.Core.List.{List}
 use lib.Dec.{eqb, leb}
 use lib.IntN.{ℤ, pos, subℕ}
@@ -19,7 +19,7 @@ use Rattle.guarantee.specs.Excess.{undercut-own}
 use Rattle.reading.specs.Ready.{Ready, Undercuts}
 use Rattle.walking.specs.Walkable.{walkable}
 use Rattle.auditing.specs.StateTests.{pickQuestions}
-use Rattle.auditing.specs.TablesAsked.{TablesAsked}
+use Rattle.auditing.specs.TablesAsked.{TablesAsked, FileAudited}
 
 module _ {f index values picks : List ℕ} {n : ℕ} (asked : TablesAsked f index values picks n) where
   -- a place before the end of a search, and no place
@@ -111,3 +111,22 @@ module _ (f values picks : List ℕ) where
         → TablesAsked f index values picks n
     tables-asked ready v h =
         record { walkable = walkable passed ready; states-are = states-are; values-long = v; picks-long = h }
+
+-- what is said of the index: nothing after a refusal, and else what the questions about the tables asked for
+module _ {f values picks index : List ℕ} {said : Audited} where
+  pub file-refused : {q i : ℕ} {z : ℤ} → said ≡ refused q i z → refused q i z ≡ audit f values picks
+      → FileAudited f values picks index said
+  file-refused e h =
+      record { answer = e ∙ h; walkable = λ C a. absurd (none e a); picks-long = λ C a. absurd (none e a) }
+    where
+      none : {q i C : ℕ} {z : ℤ} → said ≡ refused q i z → said ≡ accepted C → ⊥
+      none e a = true≢false (cc)
+
+  pub file-asked : {n : ℕ} → TablesAsked f index values picks n → said ≡ audit f values picks
+      → FileAudited f values picks index said
+  file-asked asked h =
+      record {
+        answer = h;
+        walkable = λ C a. asked .walkable;
+        picks-long = λ C a. omega (arith, asked .states-are, asked .picks-long);
+      }

@@ -1,8 +1,9 @@
--- What the questions about the tables ask for.
+-- What the questions about the tables ask for, and what the audit of a file leaves.
 use mathlib.Core.Path.{_≡_}
 use Prim.Native.Nat.{ℕ, _≤_}
 use mathlib.Core.List.{List}
 use lib.ListN.{length}
+use Rattle.model.specs.Audit.{Audited, accepted, audit}
 use Rattle.model.specs.Problem.{giveUpCost}
 use Rattle.model.specs.Sections.{problemOf}
 use Rattle.walking.specs.Walkable.{Walkable}
@@ -22,3 +23,9 @@ pub record CloseAsked (f index values picks marks : List ℕ) (limit tolerance :
   pub values-long : problemOf f .states ≤ length values
   pub limit-is : limit ≡ giveUpCost (problemOf f)
   pub tolerance-is : tolerance ≡ problemOf f .tolerance
+
+-- the audit's answer, and the index of the file where it accepts
+pub record FileAudited (f values picks index : List ℕ) (said : Audited) : Type 0 where
+  pub answer : said ≡ audit f values picks
+  pub walkable : (C : ℕ) → said ≡ accepted C → Walkable f index
+  pub picks-long : (C : ℕ) → said ≡ accepted C → problemOf f .states ≤ length picks

@@ -10,19 +10,28 @@ use model::FileAnswer;
 use reading::index::INDEX;
 use reading::layout::layout_of;
 ghost use mathlib.Core.Path.{_≡_};
+ghost use lib.ListN.{length};
 ghost use Rattle.model.specs.Answers.{auditedOf, auditCarries, auditedCarries};
 ghost use Rattle.model.specs.Audit.{audit as model-audit};
 ghost use Rattle.model.specs.Carried.{Said};
 ghost use Rattle.model.specs.Sections.{problemOf};
 ghost use Rattle.model.specs.Value.{byState};
 ghost use Rattle.model.specs.Promises.{Close, ExcessFits};
+ghost use Rattle.reading.specs.Tests.{indexSize};
+ghost use Rattle.auditing.specs.TablesAsked.{FileAudited};
 
-// The questions in order, to any bytes and any two tables.
-fn audit_file(file: &[u8], values: &[u32], picks: &[u16]) -> AuditAnswer
-    ensures { λ r. ⌜ auditedOf r ≡ model-audit (now (file .entry)) (now (values .entry)) (now (picks .entry)) ⌝ }
+// The questions in order, to any bytes and any two tables. The index is that of the file where they all say yes.
+pub fn audit_file(
+    file: &[u8],
+    values: &[u32],
+    picks: &[u16],
+    index: &mut [u32; INDEX],
+) -> AuditAnswer
+    requires { ⌜ length (now index) ≡ indexSize ⌝ }
+    ensures { λ r.
+        ⌜ FileAudited (now (file .entry)) (now (values .entry)) (now (picks .entry)) (now (index .exit)) (auditedOf r) ⌝ }
 {
-    let mut index = [0u32; INDEX];
-    let answer = questions(file, &mut index);
+    let answer = questions(file, index);
     if let FileAnswer::Refused { question, place } = answer {
         return AuditAnswer::Refused {
             question,
@@ -38,7 +47,7 @@ fn audit_file(file: &[u8], values: &[u32], picks: &[u16]) -> AuditAnswer
     if picks.len() < n {
         return refused(15, 1, 0);
     }
-    table_questions(file, &index, values, picks, n)
+    table_questions(file, index, values, picks, n)
 }
 
 // The audit of any bytes with any two tables. It changes neither. An accepted table is close, and the excess of a
@@ -54,5 +63,6 @@ pub fn audit(file: &[u8], values: &[u32], picks: &[u16]) -> AuditAnswer
         ⌜ (auditCarries r .said ≡ Said.refused
         → ExcessFits (problemOf (now (file .entry)) .tolerance) (auditCarries r .question) (auditCarries r .excess)) ⌝ }
 {
-    audit_file(file, values, picks)
+    let mut index = [0u32; INDEX];
+    audit_file(file, values, picks, &mut index)
 }

@@ -1,4 +1,6 @@
 // The C interface: numbers and slices only. A slice is passed as a pointer and then a length.
+pub mod shift;
+
 use model::AuditAnswer;
 use model::FileAnswer;
 use model::SolveAnswer;

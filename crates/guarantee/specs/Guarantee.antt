@@ -1,14 +1,15 @@
 -- What is promised of the rules of documents 01 and 02: each sentence is quoted over the theorem that it is, and a proof is a line
--- that cites. Nothing has to be believed but the model; the statements add `Met` below, and `Accepts`, `Allowed`, `Beyond` and
--- `machineOf` of other files.
-use mathlib.Core.Path.{_≡_, _∙_}
+-- that cites. Nothing has to be believed but the model; the statements add `Met`, `after` and `taken` below, and `Accepts`, `Allowed`,
+-- `Beyond` and `machineOf` of other files.
+use mathlib.Core.Path.{_≡_, _∙_, ap}
 use Prim.Native.Nat.{ℕ, _+_, _-_, _*_, _≤_, _<_}
+use native.Mathlib.Omega.{arith}
 use mathlib.Core.Bool.{true, false}
 use mathlib.Core.Logic.{_⊎_, _↔_}
 use mathlib.Core.List.{List, [], _∷_}
-use lib.IntN.{ℤ}
+use lib.IntN.{ℤ, pos}
 use lib.ListN.{getD, length}
-use Rattle.model.specs.Limits.{maxBudget, giveUp, noPick}
+use Rattle.model.specs.Limits.{maxBudget, giveUp, noPick, maxMoves}
 use Rattle.model.specs.Problem.{Problem, giveUpCost, ownRow}
 use Rattle.model.specs.Value.{byState, rowValue}
 use Rattle.model.specs.Sections.{problemOf}
@@ -16,7 +17,10 @@ use Rattle.model.specs.Questions.{passes, fails, _then_, fileQuestions}
 use Rattle.model.specs.Walk.{In, walk, Reached, pickCost, leastCost}
 use Rattle.model.specs.Rounds.{Machine, scanOf, backup, backups, walked, round, machineStart, runOf, bellman}
 use Rattle.model.specs.Solution.{fine, Tables, solved, spent, refused, solutionOf, solveQuestions, solution}
-use Rattle.model.specs.Audit.{accepted, refused as audit-refused, audit}
+use Rattle.model.specs.Audit.{accepted, refused as audit-refused, ownPick, audit}
+use Rattle.model.specs.Following.{wayTo, waySeconds, hasOutcome, done, refused as report-refused, Report, atStart, opening, report}
+use Rattle.model.specs.Following.{reports, acceptedOf}
+use Rattle.model.specs.declared.Follower.{Follower}
 use Rattle.model.specs.Cover.{Choice, Cover, planOf}
 use Rattle.model.specs.Promises.{roundsEnough}
 use Rattle.guarantee.specs.WellFormed.{well-formed}
@@ -33,6 +37,9 @@ use Rattle.guarantee.specs.Hollow.{table-too-dear}
 use Rattle.guarantee.specs.Underway.{Underway, turn-open, underway-start, underway-walked, underway-backup, scan-any-memory}
 use Rattle.guarantee.specs.Solutions.{lent-sound, solution-run, solution-ends, spent-budget, refused-by}
 use Rattle.guarantee.specs.Solutions.{never-fourteen, answer-accepted, answer-gives-up}
+use Rattle.guarantee.specs.Follows.{Came, opened, opens, audit-first, opening-stays, report-stays, nothing-follows, reports-came}
+use Rattle.guarantee.specs.Follows.{Underway as Following, reports-underway, outcome-missing, moves-spent}
+use Rattle.guarantee.specs.Follows.{goal-ended, given-up-ended, ended-refused, ended-stays}
 
 -- Demand 3: "Take any file, table V and plan that the audit accepts; e is the file's tolerance and C the least cost on the plan, both in
 -- ticks."
@@ -275,3 +282,100 @@ module _ (f : List ℕ) (picks : ℕ → ℕ) (file : fileQuestions f ≡ passes
       × (leastCost (problemOf f) picks ≡ pickCost (problemOf f) picks s)
   least-is-one =
       let one = least-cheapest (problemOf f) (well-formed f file) picks in (one .state, one .reached, one .state-open, one .cost)
+
+-- Request E2, following a plan, over any file, tables and records.
+module _ (f values picks : List ℕ) where
+  -- "Opening and each report put the audit's questions first.": where one says no, it is the answer, and the record stays
+  pub audit-asked-first
+      : (q i : ℕ) (excess : ℤ) → audit f values picks ≡ audit-refused q i excess → (w : Follower)
+      → (opening f values picks w ≡ record { answer = report-refused q i excess; left = w })
+      × ((o : ℕ) → report f values picks w o ≡ record { answer = report-refused q i excess; left = w })
+  audit-asked-first q i excess = audit-first f values picks
+
+  -- "A follower is opened on a file and an accepted plan at the start state. .. Opening starts with no moves, no seconds and the mark
+  -- clear.", and on no other file and plan
+  pub opens-at-start
+      : (C : ℕ) → audit f values picks ≡ accepted C → (w : Follower)
+      → opening f values picks w
+      ≡ record { answer = done; left = record { state = problemOf f .start; moves = 0; seconds = 0; mark = 0 } }
+  opens-at-start C = opened f values picks
+
+  pub opens-on-accepted : (w : Follower) → opening f values picks w .answer ≡ done → (C : ℕ) × (audit f values picks ≡ accepted C)
+  opens-on-accepted = opens f values picks
+
+  -- "A refused opening or report alters nothing.": nor do reports that follow a refused opening
+  pub refused-opening
+      : (w : Follower) (q i : ℕ) (excess : ℤ) → opening f values picks w .answer ≡ report-refused q i excess
+      → (opening f values picks w .left ≡ w) × ((os : List ℕ) → reports f values picks os (opening f values picks w .left) ≡ w)
+  refused-opening w q i excess h = (opening-stays f values picks w h, nothing-follows f values picks w h)
+
+  pub refused-report
+      : (w : Follower) (o q i : ℕ) (excess : ℤ) → report f values picks w o .answer ≡ report-refused q i excess
+      → report f values picks w o .left ≡ w
+  refused-report w o q i excess = report-stays f values picks w o
+
+-- "For every list of reports from opening, all on one file and plan": a follower that was opened, and a list of reports
+module _ (f values picks : List ℕ) (lent : Follower) (opens-done : opening f values picks lent .answer ≡ done) (os : List ℕ) where
+  -- the record after them
+  abbrev pub after : Follower
+  after = reports f values picks os (opening f values picks lent .left)
+
+  -- those of them that were accepted
+  abbrev pub taken : List ℕ
+  taken = acceptedOf f values picks os (opening f values picks lent .left)
+
+  accepts : (C : ℕ) × (audit f values picks ≡ accepted C)
+  accepts = opens f values picks lent opens-done
+
+  began : opening f values picks lent .left ≡ atStart (problemOf f)
+  began = ap (λ (r : Report). r .left) (opened f values picks (accepts .1) lent)
+
+  came : Came f values picks (atStart (problemOf f)) taken after
+  came = rw began (reports-came f values picks os (atStart (problemOf f)))
+
+  following : Following f values picks after
+  following = rw began (reports-underway f values picks os)
+
+  -- "its state is the one that the accepted reports lead to, its moves are their number, and its seconds the sum of their costs"
+  pub follows-state : after .state ≡ wayTo (problemOf f) (byState picks) (problemOf f .start) taken
+  follows-state = came .state-is
+
+  pub follows-moves : after .moves ≡ length taken
+  follows-moves = omega (arith, came .moves-are)
+
+  pub follows-seconds : after .seconds ≡ waySeconds (problemOf f) (byState picks) (problemOf f .start) taken
+  follows-seconds = omega (arith, came .seconds-are)
+
+  -- the record's state is always reached
+  pub follows-reached : Reached (problemOf f) (byState picks) (after .state)
+  follows-reached = following .reached
+
+  -- so a report is refused under 22 only for its outcome
+  pub refused-for-outcome
+      : (o i : ℕ) (excess : ℤ) → report f values picks after o .answer ≡ report-refused 22 i excess
+      → (after .state < problemOf f .states) × (ownPick (problemOf f) (after .state) (byState picks (after .state)) ≡ true)
+      × (hasOutcome (problemOf f) (byState picks (after .state)) o ≡ false)
+  refused-for-outcome o i excess = outcome-missing f values picks (accepts .1) after following o
+
+  -- and under 21 only at a million moves, never for the seconds
+  pub refused-for-moves
+      : (o i : ℕ) (excess : ℤ) → report f values picks after o .answer ≡ report-refused 21 i excess → after .moves ≡ maxMoves
+  refused-for-moves o i excess = moves-spent f values picks (accepts .1) after following o
+
+  -- "A goal ends it.": every report from then on meets 20, and the record stays
+  pub goal-ends
+      : problemOf f .goal (after .state) ≡ true → (more : List ℕ) (o : ℕ)
+      → report f values picks (reports f values picks more after) o ≡ record { answer = report-refused 20 0 (pos 0); left = after }
+  goal-ends goal more o =
+      let e = goal-ended f values picks (accepts .1) after following goal in
+      rw (ended-stays f values picks (accepts .1) after e more) (ended-refused f values picks (accepts .1) after e o)
+
+  -- "A state that gives up .. sets a mark in the record and so ends it.": the same after a report that was done at such a state
+  pub giving-up-ends
+      : (o : ℕ) → report f values picks after o .answer ≡ done → byState picks (after .state) ≡ giveUp → (more : List ℕ) (o′ : ℕ)
+      → report f values picks (reports f values picks more (report f values picks after o .left)) o′
+      ≡ record { answer = report-refused 20 0 (pos 0); left = report f values picks after o .left }
+  giving-up-ends o h gives more o′ =
+      let next = report f values picks after o .left in
+      let e = given-up-ended f values picks after o h gives in
+      rw (ended-stays f values picks (accepts .1) next e more) (ended-refused f values picks (accepts .1) next e o′)

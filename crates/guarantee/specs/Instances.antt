@@ -4,14 +4,15 @@ use mathlib.Core.Path.{_≡_, refl, ap}
 use Prim.Native.Nat.{ℕ, _+_, _*_, _≤_, _<_}
 use native.Mathlib.Omega.{arith}
 use mathlib.Core.Bool.{true}
-use mathlib.Core.List.{[], _∷_}
+use mathlib.Core.List.{List, [], _∷_}
 use mathlib.Core.Logic.{_⊎_}
-use lib.IntN.{ℤ}
+use lib.IntN.{ℤ, pos}
 use lib.ListN.{replicate}
 use Rattle.model.specs.Bytes.{u16At, u32At}
 use borrow.Author.Tests.{leb-true, le-leb}
 use Rattle.model.specs.Limits.{maxBudget, planRounds, giveUp}
-use Rattle.model.specs.Cases.{fileP, penaltyP, tied, valuesP, picksP, lent, planned, cases-hold, others-hold, requested-hold}
+use Rattle.model.specs.Cases.{fileP, penaltyP, tied, valuesP, picksP, gives, valuesGives, lent, planned, at}
+use Rattle.model.specs.Cases.{cases-hold, others-hold, requested-hold}
 use Rattle.model.specs.Problem.{Problem, giveUpCost, ownRow}
 use Rattle.model.specs.Search.{sumTo}
 use Rattle.model.specs.Value.{byState, rowValue, weightedSum}
@@ -22,6 +23,7 @@ use Rattle.model.specs.Rounds.{Machine, fillTo, machineStart, walked, runFrom, 
 use Rattle.model.specs.Rounds.{considerOn, consider, considerIf, scanFrom, scan, raiseOn, settle, backup}
 use Rattle.model.specs.Solution.{fine, Tables, Solution, solved, spent, refused, solutionOf, solveQuestions, solution}
 use Rattle.model.specs.Audit.{accepted, refused as audit-refused, audit}
+use Rattle.model.specs.Following.{done, refused as report-refused, Report, opening, report, reports}
 use Rattle.model.specs.Cover.{Choice, Cover, planOf, allowance, allowanceTo, openTo}
 use Rattle.model.specs.Promises.{Close, roundsEnough}
 use Rattle.guarantee.specs.WellFormed.{WellFormed, Laid, well-formed, laid}
@@ -31,6 +33,7 @@ use Rattle.guarantee.specs.Closeness.{audit-close}
 use Rattle.guarantee.specs.Solutions.{solution-refused}
 use Rattle.guarantee.specs.Guarantee.{closeness-lower, ending, acceptance, Met, starts, walks, built-on-bellman}
 use Rattle.guarantee.specs.Guarantee.{runs-the-rounds, rounds-fit, giving-up-refused, least-at-most}
+use Rattle.guarantee.specs.Guarantee.{after, goal-ends, giving-up-ends}
 use Rattle.guarantee.specs.Guarantee.{backs-up, plan-gives-up-when-cheaper, row-beats-giving-up, earlier-pick-wins}
 
 abbrev pub problemP : Problem
@@ -182,6 +185,43 @@ unfolding walk visitState visitOutcomes next machineStart fillTo backup settle r
 tied-again =
     earlier-pick-wins tied planRounds (lent 2) (requested-hold .1 .1 .1 .1 .1 .1 .1 .0) tied-lent (walks (backs-up tied-met)) refl
     (leb-true _ _ refl)
+
+-- E2 on P: a follower opened on its answer, and the reports 2, 0, 0, 0. The first is refused, the next two lead to the goal in 400 s
+abbrev pub reportsP : List ℕ
+reportsP = 2 ∷ 0 ∷ 0 ∷ 0 ∷ []
+
+pub p-opens : opening fileP valuesP picksP (at 7 7 7 7) .answer ≡ done
+p-opens = ap (λ (r : Report). r .answer) (requested-hold .1 .1 .1 .1 .1 .1 .1 .1 .0)
+
+p-opened : opening fileP valuesP picksP (at 7 7 7 7) .left ≡ at 0 0 0 0
+p-opened = ap (λ (r : Report). r .left) (requested-hold .1 .1 .1 .1 .1 .1 .1 .1 .0)
+
+pub p-follows : after fileP valuesP picksP (at 7 7 7 7) p-opens reportsP ≡ at 2 2 400 0
+p-follows = rw p-opened (requested-hold .1 .1 .1 .1 .1 .1 .1 .1 .1 .1 .1 .1 .1 .0)
+
+-- and there every report meets 20
+pub p-goal-ends : (more : List ℕ) (o : ℕ)
+    → report fileP valuesP picksP (reports fileP valuesP picksP more (after fileP valuesP picksP (at 7 7 7 7) p-opens reportsP)) o .answer
+    ≡ report-refused 20 0 (pos 0)
+unfolding problemOf statesAt u16At
+p-goal-ends more o =
+    ap (λ (r : Report). r .answer) (goal-ends fileP valuesP picksP (at 7 7 7 7) p-opens reportsP (rw p-follows refl) more o)
+
+-- on P with D 100 the start gives up, and then every report meets 20
+gives-opens : opening (penaltyP 100 0) valuesGives gives (at 7 7 7 7) ≡ record { answer = done; left = at 0 0 0 0 }
+gives-opens = requested-hold .1 .1 .1 .1 .1 .1 .1 .1 .1 .1 .1 .1 .1 .1 .1 .1 .0
+
+pub gives-ends : (more : List ℕ) (o : ℕ)
+    → report (penaltyP 100 0) valuesGives gives (reports (penaltyP 100 0) valuesGives gives more (at 0 1 100 1)) o .answer
+    ≡ report-refused 20 0 (pos 0)
+unfolding reports
+gives-ends more o =
+    let start = ap (λ (r : Report). r .left) gives-opens in
+    let given = requested-hold .1 .1 .1 .1 .1 .1 .1 .1 .1 .1 .1 .1 .1 .1 .1 .1 .1 .1 .0 in
+    ap (λ (r : Report). r .answer)
+    (rw (start, given) at
+    (giving-up-ends (penaltyP 100 0) valuesGives gives (at 7 7 7 7) (ap (λ (r : Report). r .answer) gives-opens) [] 0
+    (rw start (ap (λ (r : Report). r .answer) given)) (rw start refl) more o))
 
 -- a refusal: "Empty file: 1, place 0"
 pub empty-refused : (budget : ℕ) (t : Tables) → solution [] budget t .answer ≡ refused 1 0

@@ -31,6 +31,7 @@ pub mod Solutions
 pub mod Hollow
 pub mod Beyond
 pub mod Underway
+pub mod Follows
 pub mod Guarantee
 pub mod Instances
 pub mod Excess

@@ -1,15 +1,15 @@
 -- Laws of the outcomes read off a part of the file: the next outcome, what a loop over them has left, and parts of a file.
 -- By opening the definition once; the rest cites the one step.
-use mathlib.Core.Path.{_≡_, refl}
+use mathlib.Core.Path.{_≡_, refl, _∙_, ap}
 use Prim.Native.Nat.{ℕ, zero, suc, _+_, _-_, _*_, _≤_, _<_}
 use native.Mathlib.Nat.{eq-or-lt-of-le}
 use native.Mathlib.Omega.{arith}
 use native.Mathlib.Numerals.{add-one}
 use mathlib.Core.Bool.{Bool, true, false, _&&_}
-use mathlib.Core.List.{List, [], _∷_}
+use mathlib.Core.List.{List, [], _∷_, map}
 use mathlib.Core.Logic.{_⊎_, inl, inr}
 use lib.Dec.{ltb}
-use lib.ListN.{take}
+use lib.ListN.{getD, length, take}
 use lib.Seq.{getD-take}
 use borrow.Author.Tests.{ltb-true}
 use Rattle.model.specs.Bytes.{u16At}
@@ -86,3 +86,20 @@ obey-successor n b i (suc k) j h low high =
     step (inl e) next =
         rw (← e) (ltb-true _ _ (and-left _ _ (and-left (outcomeObeys n (outcomeIn b i)) (outcomesObey n (outcomesFrom b (suc i) k)) h)))
     step (inr l) next = next l (omega arith)
+
+-- how many outcomes are read, and where the o-th of them leads
+pub outcomes-count : (b : List ℕ) (i k : ℕ) → length (outcomesFrom b i k) ≡ k
+unfolding outcomesFrom
+outcomes-count b i zero = refl
+outcomes-count b i (suc k) = ap suc (outcomes-count b (suc i) k)
+
+successor-from
+    : (b : List ℕ) (i k o s : ℕ) → o < k → u16At b (4 * (i + o)) ≡ getD (map (λ (x : Outcome). x .successor) (outcomesFrom b i k)) o s
+unfolding outcomesFrom
+successor-from b i zero o s h = absurd (omega arith)
+successor-from b i (suc k) zero s h = ap (λ j. u16At b (4 * j)) (omega arith)
+successor-from b i (suc k) (suc o) s h = ap (λ j. u16At b (4 * j)) (omega arith) ∙ successor-from b (suc i) k o s (omega arith)
+
+pub successor-at
+    : (b : List ℕ) (k o s : ℕ) → o < k → u16At b (4 * o) ≡ getD (map (λ (x : Outcome). x .successor) (outcomesFrom b 0 k)) o s
+successor-at b k o s h = ap (λ j. u16At b (4 * j)) (omega arith) ∙ successor-from b 0 k o s h

@@ -4,12 +4,15 @@ use Rattle.model.specs.Carried.{Said, Carried, ended, refusal}
 use Rattle.model.specs.Questions.{Verdict, passes, fails}
 use Rattle.model.specs.Solution.{Answer, solved, spent, refused}
 use Rattle.model.specs.Audit.{Audited, accepted, refused as audit-refused}
+use Rattle.model.specs.Following.{Followed, done, refused as report-refused}
 use Rattle.model.specs.declared.FileAnswer.{FileAnswer}
 use Rattle.model.specs.declared.FileAnswer.the-variants.{Passed, Refused}
 use Rattle.model.specs.declared.SolveAnswer.{SolveAnswer}
 use Rattle.model.specs.declared.SolveAnswer.the-variants.{Solved, Spent, Refused as Turned-down}
 use Rattle.model.specs.declared.AuditAnswer.{AuditAnswer}
 use Rattle.model.specs.declared.AuditAnswer.the-variants.{Accepted, Refused as Audit-refused}
+use Rattle.model.specs.declared.FollowAnswer.{FollowAnswer}
+use Rattle.model.specs.declared.FollowAnswer.the-variants.{Done, Refused as Report-refused}
 
 -- what the code's answers carry, case by case: of questions 1 to 11,
 abbrev pub fileCarries : FileAnswer → Carried
@@ -56,3 +59,8 @@ answerOf (Turned-down q i) = refused q i
 abbrev pub auditedOf : AuditAnswer → Audited
 auditedOf (Accepted least) = accepted least
 auditedOf (Audit-refused q i excess) = audit-refused q i excess
+
+-- of opening and reports: nothing, or the number of the question that said no, its place and its excess. The record is beside it
+abbrev pub followedOf : FollowAnswer → Followed
+followedOf Done = done
+followedOf (Report-refused q i excess) = report-refused q i excess

@@ -42,10 +42,13 @@ unboundedState p v = first (λ s. boundedOn (p .goal s) (giveUpCost p) (v s)) 0 
 abbrev pub open-state : Problem → List ℕ → ℕ → Bool
 open-state p marks s = not (p .goal s) && not (eqb (getD marks s 0) 0)
 
+-- a pick of state s's own: "that state's row or 65,535"
+abbrev pub ownPick : Problem → ℕ → ℕ → Bool
+ownPick p s r = eqb r giveUp || ownRow p s r
+
 -- "Is each reached pick that state's row or 65,535, goals aside? 18 (state)."
 unfoldable pub strayState : Problem → (ℕ → ℕ) → List ℕ → ℕ
-strayState p picks marks =
-    first (λ s. not (open-state p marks s) || (eqb (picks s) giveUp || ownRow p s (picks s))) 0 (p .states)
+strayState p picks marks = first (λ s. not (open-state p marks s) || ownPick p s (picks s)) 0 (p .states)
 
 -- "Is each reached pick's value at most V + e − 1, goals aside? 19 (state)."
 unfoldable pub slackState : Problem → (ℕ → ℕ) → (ℕ → ℕ) → List ℕ → ℕ

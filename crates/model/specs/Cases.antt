@@ -23,6 +23,9 @@ use Rattle.model.specs.Solution.{checkedRound, checkedBackups, checkedBa
 use Rattle.model.specs.Solution.{checkedConsider, checkedConsiderOn, checkedEvaluate}
 use Rattle.model.specs.Audit.{Audited, accepted, audit, problemAudit, tableQuestions, unboundedState, strayState, slackState}
 use Rattle.model.specs.Audit.{pickValue}
+use Rattle.model.specs.Following.{leadsTo, moveSeconds, wayTo, waySeconds, hasOutcome, reportQuestions, done, refused, opening}
+use Rattle.model.specs.Following.{moved, report, reports, acceptedOf}
+use Rattle.model.specs.declared.Follower.{Follower}
 use Rattle.model.specs.Lines.{codes, planText, answerLine, stateLines, stateLine, listed, runStates}
 use Rattle.model.specs.Lines.{decimal, decimalFrom, auditLine}
 use Rattle.model.specs.TableFiles.{bytes32, entries16, numberBytes, tableBytes, listTo}
@@ -109,6 +112,17 @@ valuesP = 370000 ∷ 300000 ∷ 0 ∷ []
 
 abbrev pub picksP : List ℕ
 picksP = 0 ∷ 2 ∷ 65534 ∷ []
+
+-- the picks of P with D 100, whose start gives up: its values are 100,000
+abbrev pub gives : List ℕ
+gives = 65535 ∷ 65535 ∷ 65534 ∷ []
+
+abbrev pub valuesGives : List ℕ
+valuesGives = 100000 ∷ 100000 ∷ 0 ∷ []
+
+-- a follower's record
+abbrev pub at : ℕ → ℕ → ℕ → ℕ → Follower
+at s moves seconds mark = record { state = s; moves = moves; seconds = seconds; mark = mark }
 
 -- "It prints, whole"
 abbrev pub textP : List ℕ
@@ -197,6 +211,28 @@ requested =
     ∷ (planned (penaltyP 100 0) 3 .answer ≡ solved 3 2 100000)
     ∷ (planned (penaltyP 100 0) 3 .tables .picks ≡ 65535 ∷ 65535 ∷ 65534 ∷ [])
     ∷ (fileQuestions tied ≡ passes)
+    -- E2: P from opening, whatever the record held: outcome 0 of row 0 leads to state 1 in 100 s, outcome 0 of row 2 to the goal in 300 s
+    -- more, and a goal ends it (20); row 0 has no outcome 2 (22)
+    ∷ (opening fileP valuesP picksP (at 7 7 7 7) ≡ record { answer = done; left = at 0 0 0 0 })
+    ∷ (report fileP valuesP picksP (at 0 0 0 0) 2 ≡ record { answer = refused 22 0 (pos 0); left = at 0 0 0 0 })
+    ∷ (report fileP valuesP picksP (at 0 0 0 0) 0 ≡ record { answer = done; left = at 1 1 100 0 })
+    ∷ (report fileP valuesP picksP (at 1 1 100 0) 0 ≡ record { answer = done; left = at 2 2 400 0 })
+    ∷ (report fileP valuesP picksP (at 2 2 400 0) 0 ≡ record { answer = refused 20 0 (pos 0); left = at 2 2 400 0 })
+    ∷ (reports fileP valuesP picksP (2 ∷ 0 ∷ 0 ∷ 0 ∷ []) (at 0 0 0 0) ≡ at 2 2 400 0)
+    ∷ (acceptedOf fileP valuesP picksP (2 ∷ 0 ∷ 0 ∷ 0 ∷ []) (at 0 0 0 0) ≡ 0 ∷ 0 ∷ [])
+    ∷ (waySeconds (problemOf fileP) (byState picksP) 0 (0 ∷ 0 ∷ []) ≡ 400)
+    -- P with D 100 gives up: outcome 0 only, which adds 100 s and sets the mark
+    ∷ (opening (penaltyP 100 0) valuesGives gives (at 7 7 7 7) ≡ record { answer = done; left = at 0 0 0 0 })
+    ∷ (report (penaltyP 100 0) valuesGives gives (at 0 0 0 0) 1 ≡ record { answer = refused 22 0 (pos 0); left = at 0 0 0 0 })
+    ∷ (report (penaltyP 100 0) valuesGives gives (at 0 0 0 0) 0 ≡ record { answer = done; left = at 0 1 100 1 })
+    ∷ (report (penaltyP 100 0) valuesGives gives (at 0 1 100 1) 0 ≡ record { answer = refused 20 0 (pos 0); left = at 0 1 100 1 })
+    -- no state of P: not 20, but 21 at a million moves or above 400,000,000,000 seconds, and else 22; a mark that is set meets 20 first,
+    -- and the audit's questions come before all
+    ∷ (report fileP valuesP picksP (at 3 1000000 0 0) 0 .answer ≡ refused 21 0 (pos 0))
+    ∷ (report fileP valuesP picksP (at 3 999999 400000000001 0) 0 .answer ≡ refused 21 0 (pos 0))
+    ∷ (report fileP valuesP picksP (at 3 999999 400000000000 0) 0 .answer ≡ refused 22 0 (pos 0))
+    ∷ (report fileP valuesP picksP (at 3 1000000 0 2) 0 .answer ≡ refused 20 0 (pos 0))
+    ∷ (report fileP (370001 ∷ 300000 ∷ 0 ∷ []) picksP (at 3 1000000 0 2) 0 .answer ≡ refused 17 0 (pos 1))
     ∷ []
 
 infixr 40 _and_
@@ -212,13 +248,16 @@ unfolding fileQuestions layoutQuestions sectionQuestions endQuestion settingQues
     checkedConsiderIf checkedConsider checkedConsiderOn checkedEvaluate beats evaluateOn settle raiseOn machineStart fillTo listTable
     walk visitState visitOutcomes next leastCost leastTo pickCost
     audit problemAudit tableQuestions unboundedState strayState slackState pickValue
+    opening report reports acceptedOf reportQuestions moved leadsTo moveSeconds hasOutcome wayTo waySeconds
     planText answerLine stateLines stateLine listed runStates decimal decimalFrom auditLine numberBytes tableBytes listTo entries16
 computed = (
   refl and refl and refl and refl and refl and refl and refl and refl and refl and refl
       and refl and refl and refl and refl and refl and refl and refl and refl and refl and tt,
   refl and refl and refl and refl and refl and refl and refl and refl and refl and refl
       and refl and refl and tt,
-  refl and refl and refl and refl and refl and refl and refl and refl and tt,
+  refl and refl and refl and refl and refl and refl and refl and refl
+      and refl and refl and refl and refl and refl and refl and refl and refl
+      and refl and refl and refl and refl and refl and refl and refl and refl and refl and tt,
 )
 
 pub cases-hold : All cases

@@ -4,11 +4,13 @@ use Prim.Native.Nat.{ℕ}
 use mathlib.Core.Bool.{Bool, true, false}
 use mathlib.Core.List.{List}
 use lib.Dec.{leb}
-use lib.ListN.{length, set}
+use lib.ListN.{getD, length, set}
 use lib.IntN.{ℤ, pos}
 use Rattle.model.specs.Carried.{Said, passed, solved, spent, accepted, refused, Carried}
 use Rattle.model.specs.Answers.{answerCarries}
 use Rattle.model.specs.Solution.{Tables, Solution}
+use Rattle.model.specs.Following.{Followed, done, refused as report-refused, Report}
+use Rattle.model.specs.declared.Follower.{Follower}
 
 pub record Numbers (A : Type 0) : Type 0 where
   pub status : ℕ
@@ -61,3 +63,26 @@ leftOn false s lent = lent
 pub record HandsBack (s : Solution) (lent left : Tables) (before after : List ℕ) (r : ℕ) : Type 0 where
   pub numbers-are : Written (plainNumbers (answerCarries (s .answer))) before after r
   pub tables-are : left ≡ leftOn (leb 3 (length before)) s lent
+
+-- Following (E2). "The record is a C struct of four 64-bit numbers (state, moves, seconds, mark: 0 clear, anything else set)"
+abbrev pub followerIn : List ℕ → Follower
+followerIn l = record { state = getD l 0 0; moves = getD l 1 0; seconds = getD l 2 0; mark = getD l 3 0 }
+
+abbrev pub withFollower : Follower → List ℕ → List ℕ
+withFollower w l = set (three (w .state) (w .moves) (w .seconds) l) 3 (w .mark)
+
+-- "3 done, with answer state, moves, seconds; 0 refused, with question, place, excess"
+abbrev pub followNumbers : Followed → Follower → Numbers ℤ
+followNumbers done w = numbers 3 (pos (w .state)) (pos (w .moves)) (pos (w .seconds))
+followNumbers (report-refused q i excess) w = numbers 0 (pos q) (pos i) excess
+
+-- "A refused opening or report alters nothing."
+abbrev pub followerOn : Bool → Followed → Follower → List ℕ → List ℕ
+followerOn true done w l = withFollower w l
+followerOn true (report-refused q i excess) w l = l
+followerOn false a w l = l
+
+-- what following hands back: the numbers, and the record; "4 .. and then nothing is written"
+pub record HandsOn (r : Report) (lent left : List ℕ) (before after : List ℤ) (status : ℕ) : Type 0 where
+  pub numbers-are : Written (followNumbers (r .answer) (r .left)) before after status
+  pub record-is : left ≡ followerOn (leb 3 (length before)) (r .answer) (r .left) lent

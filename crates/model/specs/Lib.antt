@@ -11,6 +11,7 @@ pub mod Walk
 pub mod Rounds
 pub mod Solution
 pub mod Audit
+pub mod Following
 pub mod Carried
 pub mod Answers
 pub mod Lines

@@ -1,4 +1,4 @@
--- The numbers of document 01, each under one name.
+-- The numbers of documents 01 and 02, each under one name.
 use Prim.Native.Nat.{ℕ}
 
 -- "count 3", "count 1 to 1,024", "count 0 to 4,096", "count 0 to 8,192"
@@ -64,3 +64,10 @@ planRounds = 1000000
 -- "does the row value fit in 32 bits?"
 abbrev pub valueBound : ℕ
 valueBound = 4294967296
+
+-- "21 at a million moves or more or above 400,000,000,000 seconds"
+abbrev pub maxMoves : ℕ
+maxMoves = 1000000
+
+abbrev pub maxSpent : ℕ
+maxSpent = 400000000000

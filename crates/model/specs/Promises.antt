@@ -1,4 +1,5 @@
--- What the calls promise beyond the definitions' own answers: the clauses of the contracts of `solve`, `audit` and `plan`.
+-- What the calls promise beyond the definitions' own answers: the clauses of the contracts of `solve`, `audit`,
+-- of following and of `plan`.
 use mathlib.Core.Path.{_≡_}
 use Prim.Native.Nat.{ℕ, suc, _+_, _-_, _*_, _≤_}
 use mathlib.Core.Bool.{Bool, true}
@@ -14,7 +15,10 @@ use Rattle.model.specs.Solution.{Tables, tables, Solution, solveQuestion
 use Rattle.model.specs.Audit.{accepted, audit}
 use Rattle.model.specs.Cover.{Choice, Cover, planOf, allowance, openTo}
 use Rattle.model.specs.Carried.{Said, Carried}
-use Rattle.model.specs.Answers.{answerCarries}
+use Rattle.model.specs.Following.{Report}
+use Rattle.model.specs.Answers.{answerCarries, followedOf}
+use Rattle.model.specs.declared.Follower.{Follower}
+use Rattle.model.specs.declared.FollowAnswer.{FollowAnswer}
 use Rattle.model.specs.Lines.{planText, runStates}
 use Rattle.model.specs.Buffers.{Holds, planRoom}
 
@@ -54,6 +58,11 @@ pub record ExcessFits (e q : ℕ) (z : ℤ) : Type 0 where
   pub undercut : q ≡ 17 → (k : ℕ) × (z ≡ pos (suc k))
   pub slack : q ≡ 19 → (k : ℕ) × (e ≤ suc k) × (z ≡ negsuc k)
   pub none : (q ≡ 17 → ⊥) → (q ≡ 19 → ⊥) → z ≡ pos 0
+
+-- what an opening or a report answers, and the record as it leaves it, are those of a definition
+pub record Answered (answer : FollowAnswer) (left : Follower) (said : Report) : Type 0 where
+  pub answer-is : followedOf answer ≡ said .answer
+  pub left-is : left ≡ said .left
 
 -- "The program `plan` .. runs up to 1,000,000 rounds": with lent values and picks, and tables of its own for what is remembered and for
 -- the walk list

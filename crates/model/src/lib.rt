@@ -39,6 +39,11 @@ pub const MAX_BUDGET: u64 = 2000000000000000;
 // "The program `plan` .. runs up to 1,000,000 rounds."
 pub const PLAN_ROUNDS: u64 = 1000000;
 
+// A report is taken below so many moves and up to so many seconds of a shift.
+pub const MAX_MOVES: u64 = 1000000;
+
+pub const MAX_SPENT: u64 = 400000000000;
+
 // The longest first line of `plan` and line of `audit`, the longest line of a state, and room for the text of every plan.
 pub const LINE_MOST: usize = 73;
 
@@ -77,6 +82,24 @@ pub enum AuditAnswer {
     Accepted {
         least: u32,
     },
+    Refused {
+        question: u8,
+        place: u32,
+        excess: i64,
+    },
+}
+
+// The record of a shift: the state it is in, the moves made and the seconds spent, and its mark: 0 clear, anything else set.
+pub struct Follower {
+    pub state: u64,
+    pub moves: u64,
+    pub seconds: u64,
+    pub mark: u64,
+}
+
+// The answer of opening a follower, and of a report: the audit's questions and 20 to 22.
+pub enum FollowAnswer {
+    Done,
     Refused {
         question: u8,
         place: u32,

@@ -82,6 +82,10 @@ module _ {f index : List ℕ} {entries r : ℕ} (h : RowReady f index entries r)
   pub cost-passes : (v : ℕ → ℕ) (x : ℕ) → x ≤ getD index (rowsBase + 2 * r + 1) 0 → ltb (rowValue (problemOf f) v r) x ≡ false
   cost-passes v x l = le-ltb (rowValue (problemOf f) v r) x (omega (arith, row-value-is v))
 
+-- the outcomes of a row alone
+pub row-at : {f index : List ℕ} {r : ℕ} → Ready f index → r < problemOf f .rows → RowReady f index (problemOf f .states) r
+row-at ready there = record { ready = ready; entries-there = omega arith; row-there = there }
+
 -- the rows of a state, as the index has them
 module _ {f index : List ℕ} (h : Ready f index) (s : ℕ) (l : s < problemOf f .states) where
   pub row-ready : {entries r : ℕ} → problemOf f .states ≤ entries → r < getD index (s + 1) 0 → RowReady f index entries r

@@ -7,6 +7,7 @@ use native.Mathlib.Omega.{arith}
 use mathlib.Core.List.{List}
 use lib.ListN.{length, getD, take, drop, length-drop}
 use lib.Seq.{length-take-le}
+use Rattle.model.specs.Limits.{ticksPerSecond}
 use Rattle.model.specs.Problem.{endRow}
 use Rattle.model.specs.Sections.{problemOf, outcomeAt, outcomeCountOf, outcomesFrom}
 use Rattle.guarantee.specs.Parts.{outcomes-front}
@@ -55,3 +56,10 @@ module _ (f index : List ℕ) (h : Ready f index) (s : ℕ) (l : s < problemOf f
 pub outcomes-read : (f : List ℕ) (r : ℕ) → problemOf f .outcomes r ≡ outcomesFrom (drop (outcomeAt f r) f) 0 (outcomeCountOf f r)
 unfolding problemOf
 outcomes-read f r = refl
+
+-- the seconds of a row, as the index has its cost in ticks
+abbrev pub secondsAt : List ℕ → ℕ → ℕ
+secondsAt index r = getD index (rowsBase + 2 * r + 1) 0 / ticksPerSecond
+
+pub index-seconds : {f index : List ℕ} → Ready f index → (r : ℕ) → r < problemOf f .rows → secondsAt index r ≡ problemOf f .cost r
+index-seconds ready r l = omega (arith, ready .ticks r l)

@@ -3,6 +3,7 @@
 pub mod index;
 pub mod layout;
 pub mod numbers;
+pub mod outcomes;
 pub mod settings;
 pub mod states;
 pub mod value;

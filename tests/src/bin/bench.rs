@@ -12,18 +12,13 @@ use comparisons::limits::{MAX_ROWS, MAX_STATES};
 use comparisons::loads::{Load, LOADS};
 use comparisons::random::Random;
 use comparisons::solver::{solve_file, OwnedTables, Run};
-use std::hint::black_box;
+use comparisons::timing::{median, Pairs};
 use std::process::ExitCode;
-use std::time::Instant;
 
 /// The sizes timed, each with the highest ratio of the product's time to Rust's that is let pass.
 const BARS: [(usize, f64); 4] = [(16, 1.05), (64, 1.05), (256, 0.95), (1_024, 0.95)];
 /// The rounds of a run.
 const BUDGET: u64 = 10_000;
-/// Pairs of timings for each file.
-const PAIRS: usize = 15;
-/// What one timing should last, in seconds.
-const LASTS: f64 = 0.000_5;
 
 /// The product's run: its code and answer.
 fn product(file: &[u8], tables: &mut OwnedTables) -> (u8, [u64; ANSWER]) {
@@ -47,27 +42,10 @@ fn tables() -> OwnedTables {
     }
 }
 
-/// The seconds that `times` runs last.
-fn seconds<T>(times: usize, mut run: impl FnMut() -> T) -> f64 {
-    let begin = Instant::now();
-    for _ in 0..times {
-        black_box(run());
-    }
-    begin.elapsed().as_secs_f64()
-}
-
-/// The middle of a list of numbers.
-fn median(mut numbers: Vec<f64>) -> f64 {
-    numbers.sort_by(f64::total_cmp);
-    numbers[numbers.len() / 2]
-}
-
 /// What was measured on some files.
 #[derive(Default)]
 struct Measured {
-    ratios: Vec<f64>,
-    product: Vec<f64>,
-    rust: Vec<f64>,
+    timed: Pairs,
     rounds: u64,
     evaluations: u64,
     full_count: u64,
@@ -89,19 +67,9 @@ impl Measured {
         self.full_count += run.full_count;
     }
 
-    /// Times both sides by turns, the first of a pair changing from pair to pair.
+    /// Times both sides by turns.
     fn time(&mut self, file: &[u8]) {
-        let mut lent = tables();
-        let once = seconds(1, || rust(file, &mut lent)).max(1e-9);
-        let times = (LASTS / once).ceil().max(1.0) as usize;
-        for pair in 0..PAIRS {
-            let first = (pair % 2 == 0).then(|| seconds(times, || product(file, &mut lent)));
-            let theirs = seconds(times, || rust(file, &mut lent));
-            let given = first.unwrap_or_else(|| seconds(times, || product(file, &mut lent)));
-            self.ratios.push(given / theirs);
-            self.product.push(given / times as f64);
-            self.rust.push(theirs / times as f64);
-        }
+        self.timed.time(&mut tables(), |lent| product(file, lent), |lent| rust(file, lent));
     }
 
     /// Measures a load at a size on files of a seed.
@@ -119,9 +87,9 @@ impl Measured {
     fn print(&self, name: &str, states: usize) {
         println!(
             "{states:>5}  {name:<23} {:>8.3} {:>12.1} {:>12.1} {:>8} {:>12} {:>12}",
-            median(self.ratios.clone()),
-            median(self.product.clone()) * 1e6,
-            median(self.rust.clone()) * 1e6,
+            median(&self.timed.ratios),
+            median(&self.timed.first) * 1e6,
+            median(&self.timed.second) * 1e6,
             self.rounds,
             self.evaluations,
             self.full_count,
@@ -145,9 +113,9 @@ fn main() -> ExitCode {
             let measured = Measured::load(load, states, seed, files);
             measured.print(load.name, states);
             differences += measured.differences;
-            ratios.extend(measured.ratios);
+            ratios.extend(measured.timed.ratios);
         }
-        let ratio = median(ratios);
+        let ratio = median(&ratios);
         let word = if ratio <= bar { "within" } else { "above" };
         verdicts.push(format!("{states:>5} states: ratio {ratio:.3}, {word} the bar of {bar}"));
     }

@@ -1,11 +1,12 @@
 //! Compiles the C and the Rust example as `README.md` says, runs both on files of `examples` and on
-//! others, and holds what they print against the solver and the audit written apart. Holds also what
-//! `stick.md` and `README.md` show.
+//! others, and holds what they print against the solver and the audit written apart. So too the
+//! example that follows a plan, against the follower. Holds also what `stick.md` and `README.md` show.
 //!
 //! `compare_examples`
 
 use comparisons::audit::{audit_file, Verdict};
 use comparisons::examples::{path, stick, TEXTS};
+use comparisons::follower::{open, report, Followed, Record};
 use comparisons::harness::Tally;
 use comparisons::limits::{GIVE_UP, PLAN_ROUNDS};
 use comparisons::listing::{audit_line, plan_lines, planned};
@@ -27,12 +28,14 @@ struct Example {
     strict: &'static str,
 }
 
-/// The examples.
+/// Words that make the C compiler strict.
+const STRICT_C: &str = "-std=c11 -Wall -Wextra -Wpedantic -Werror";
+/// The examples that check, solve and audit.
 const EXAMPLES: [Example; 2] = [
     Example {
         name: "c",
         command: "gcc -O2 -Iexamples/c examples/c/plan_and_audit.c target/staticlib/libcapi.a",
-        strict: "-std=c11 -Wall -Wextra -Wpedantic -Werror",
+        strict: STRICT_C,
     },
     Example {
         name: "rust",
@@ -40,6 +43,14 @@ const EXAMPLES: [Example; 2] = [
         strict: "-D warnings",
     },
 ];
+/// The example that follows a plan.
+const FOLLOW: Example = Example {
+    name: "follow",
+    command: "gcc -O2 -Iexamples/c examples/c/follow.c target/staticlib/libcapi.a",
+    strict: STRICT_C,
+};
+/// The reports that `README.md` shows on P.
+const SHOWN_REPORTS: [u64; 3] = [0, 0, 0];
 
 /// Compiles an example into the folder.
 fn compile(folder: &Folder, example: &Example) {
@@ -51,12 +62,17 @@ fn compile(folder: &Folder, example: &Example) {
     assert!(status.success(), "{compiler:?}");
 }
 
+/// What the examples print of a refusal that carries an excess.
+fn refused_text(question: u64, place: u64, excess: i64) -> String {
+    format!("refused, question {question}, place {place}, excess {excess}\n")
+}
+
 /// What the examples print of a verdict.
 fn audit_text(verdict: Verdict) -> String {
     match verdict {
         Verdict::Accepted { least_cost } => format!("audit: accepted, C {least_cost}\n"),
         Verdict::Refused { question, place, excess } => {
-            format!("audit: refused, question {question}, place {place}, excess {excess}\n")
+            format!("audit: {}", refused_text(question, place, excess))
         }
     }
 }
@@ -99,6 +115,52 @@ fn example_text(file: &[u8]) -> String {
         "check: passed\nsolve: {word}, {rounds} rounds, {evaluations} evaluations, C {least}\n\
          {states}{audit}with the value of state 0 a tick higher:\n{higher}"
     )
+}
+
+/// What the example that follows prints of an opening or a report.
+fn followed_text(followed: Followed, record: &Record) -> String {
+    let Record { state, moves, seconds, .. } = record;
+    match followed {
+        Followed::Done => format!("state {state}, {moves} moves, {seconds} seconds\n"),
+        Followed::Refused { question, place, excess } => refused_text(question, place, excess),
+    }
+}
+
+/// All that it prints of a file and reports.
+fn follow_text(file: &[u8], outcomes: &[u64]) -> String {
+    let OwnedTables { values, picks, .. } = planned(file).tables.unwrap_or_default();
+    let mut record = Record { state: 0, moves: 0, seconds: 0, mark: 0 };
+    let opened = open(file, &values, &picks, &mut record);
+    let mut text = followed_text(opened, &record);
+    for &outcome in outcomes.iter().take_while(|_| opened == Followed::Done) {
+        let followed = report(file, &values, &picks, outcome, &mut record);
+        text += &followed_text(followed, &record);
+    }
+    text
+}
+
+/// Runs the example that follows on a file and reports.
+fn compare_follow(tally: &mut Tally, folder: &Folder, case: &str, file: &[u8], outcomes: &[u64]) {
+    folder.put("file", Some(file));
+    tally.case = format!("the example that follows on {case}, reports {outcomes:?}");
+    tally.count("runs of the example that follows");
+    let mut command = Command::new(folder.path(FOLLOW.name));
+    command.arg(folder.path("file")).args(outcomes.iter().map(u64::to_string));
+    let asked = Said::only(follow_text(file, outcomes));
+    tally.hold("what it prints", &said(start(&mut command)), &asked);
+}
+
+/// Follows the examples' plans: P to its goal, past it and with refused outcomes, a stick that is given
+/// up, the stick of `stick.md`; and an empty file, which is not opened.
+fn compare_follows(tally: &mut Tally, folder: &Folder) {
+    let files = TEXTS.map(|(name, _)| (name, std::fs::read(path(name)).expect("an example")));
+    let [(_, p), (_, one_state), (_, stick)] = &files;
+    compare_follow(tally, folder, "P", p, &SHOWN_REPORTS);
+    compare_follow(tally, folder, "P", p, &[2, 1, 0]);
+    compare_follow(tally, folder, "P", p, &[u64::MAX, 0, 1, 0]);
+    compare_follow(tally, folder, "one-state", one_state, &[1, 0, 0]);
+    compare_follow(tally, folder, "stick", stick, &[1, 0, 1, 0, 1, 0, 0, 0]);
+    compare_follow(tally, folder, "an empty file", &[], &[0]);
 }
 
 /// Runs both examples on a file.
@@ -145,7 +207,8 @@ fn compare_pages(tally: &mut Tally) {
     hold_shown(tally, "../README.md", TEXTS[0].1);
     hold_shown(tally, "../README.md", &plan_lines(&p));
     hold_shown(tally, "../README.md", &example_text(&p));
-    for example in &EXAMPLES {
+    hold_shown(tally, "../README.md", &follow_text(&p, &SHOWN_REPORTS));
+    for example in EXAMPLES.iter().chain([&FOLLOW]) {
         hold_shown(tally, "../README.md", example.command);
     }
 }
@@ -153,7 +216,7 @@ fn compare_pages(tally: &mut Tally) {
 fn main() -> ExitCode {
     let mut tally = Tally::default();
     let folder = Folder::new("compare-examples");
-    for example in &EXAMPLES {
+    for example in EXAMPLES.iter().chain([&FOLLOW]) {
         compile(&folder, example);
     }
     for (name, _) in TEXTS {
@@ -164,6 +227,7 @@ fn main() -> ExitCode {
     compare(&mut tally, &folder, "an empty file", &[]);
     compare(&mut tally, &folder, "the limits", &at_limits(&mut random, true, 5_000).bytes());
     compare(&mut tally, &folder, "a chain", &deep_chain(&mut random, 1_024, 8, true).bytes());
+    compare_follows(&mut tally, &folder);
     compare_pages(&mut tally);
     tally.close(0..=0, 0)
 }

@@ -8,7 +8,7 @@
 use comparisons::damage::damaged;
 use comparisons::encode::Draft;
 use comparisons::examples::{file_p, one_state};
-use comparisons::harness::{argument, noise, Tally};
+use comparisons::harness::{answer_length, argument, noise, Tally};
 use comparisons::library::{
     self, asked_of_lent, asked_of_run, ACCEPTED, ANSWER, REFUSED, SOLVED, SPENT, TOO_SHORT,
 };
@@ -81,11 +81,7 @@ fn compare_run(
 ) -> bool {
     let mut given = lent(random, sizes[0], sizes[1]);
     let mut asked = given.clone();
-    let length = match random.below(12) {
-        0 => random.below(ANSWER),
-        1..=2 => ANSWER + 1 + random.below(2),
-        _ => ANSWER,
-    };
+    let length = answer_length(random);
     let mut given_answer: Vec<u64> = noise(random, length);
     let (code, answer) = match length >= ANSWER {
         true => asked_of_run(solve_file(file, budget, asked.lend()).answer),

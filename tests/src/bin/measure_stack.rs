@@ -5,7 +5,8 @@
 //! `measure_stack [plan] [audit]`
 
 use comparisons::audit::Verdict;
-use comparisons::library::{self, ACCEPTED, ANSWER, PASSED, SOLVED};
+use comparisons::follower::Record;
+use comparisons::library::{self, ACCEPTED, ANSWER, DONE, PASSED, SOLVED};
 use comparisons::limits::PLAN_ROUNDS;
 use comparisons::listing::{audit_line, planned};
 use comparisons::made::deepest;
@@ -19,7 +20,9 @@ const STEP: u64 = 4;
 /// More than anything needs, in KiB.
 const PLENTY: u64 = 16 * 1_024;
 /// What a child prints when it came to its end.
-const DONE: &str = "done\n";
+const ENDED: &str = "ended\n";
+/// The record at the start of the file, state 0.
+const START: Record = Record { state: 0, moves: 0, seconds: 0, mark: 0 };
 /// Runs a program under a limit.
 const LIMITED: &str = "ulimit \"$1\" \"$2\"; shift 2; exec \"$@\"";
 
@@ -41,6 +44,20 @@ fn check(file: &[u8]) {
     assert_eq!(code, PASSED);
 }
 
+/// The product's opening of a follower.
+fn open(file: &[u8], tables: &mut OwnedTables) {
+    let (OwnedTables { values, picks, .. }, mut record) = (tables, START);
+    let code = library::open(file, values, picks, &mut record, &mut [0; ANSWER]);
+    assert_eq!(code, DONE);
+}
+
+/// The product's report of the picked row's first outcome at the start.
+fn report(file: &[u8], tables: &mut OwnedTables) {
+    let (OwnedTables { values, picks, .. }, mut record) = (tables, START);
+    let code = library::report(file, values, picks, 0, &mut record, &mut [0; ANSWER]);
+    assert_eq!(code, DONE);
+}
+
 /// A child's part: the named function on a thread with so many KiB of stack.
 fn child(function: &str, kib: &str) {
     let function = function.to_string();
@@ -51,17 +68,19 @@ fn child(function: &str, kib: &str) {
     let work = move || match function.as_str() {
         "solve" => solve(&file, &mut tables),
         "audit" => audit(&file, &mut tables),
+        "open" => open(&file, &mut tables),
+        "report" => report(&file, &mut tables),
         _ => check(&file),
     };
     thread.spawn(work).expect("a thread").join().expect("it ends well");
-    print!("{DONE}");
+    print!("{ENDED}");
 }
 
 /// Whether a function of the library does with so much.
 fn library_does(function: &str, kib: u64) -> bool {
     let own = std::env::current_exe().expect("this program");
     let command = &mut Command::new(own);
-    said(start(command.args(["child", function, &kib.to_string()]))).output == DONE
+    said(start(command.args(["child", function, &kib.to_string()]))).output == ENDED
 }
 
 /// Whether a program does with so much of what a letter of `ulimit` names.
@@ -100,7 +119,7 @@ fn main() {
         assert_eq!(word, "child");
         return child(function, kib);
     }
-    for function in ["solve", "audit", "check"] {
+    for function in ["solve", "audit", "check", "open", "report"] {
         println!("cuulipso_{function}: {} KiB of stack", least(|kib| library_does(function, kib)));
     }
     let file = deepest().bytes();

@@ -1,12 +1,11 @@
 -- `audit_file` answers the model's audit: a file's refusal, a table too short, or the questions about the tables.
 -- Made by `places make` from answers/audit_file.ans: edit that file, and not this one.
-use Prim.Native.Nat.{ℕ}
-use mathlib.Core.Path.{_≡_, _∙_, sym, ap}
-use lib.ListN.{length-replicate}
+use mathlib.Core.Path.{_≡_, refl, _∙_, sym, ap}
 use Rattle.model.specs.Answers.{verdictOf}
 use Rattle.model.specs.Questions.{passes, fileQuestions}
-use Rattle.reading.specs.Tests.{indexSize}
+use Rattle.auditing.specs.TablesAsked.{TablesAsked}
 use Rattle.auditing.proofs.Stops.{audit-stop-file, audit-stop-values, audit-stop-picks, audit-tables, tables-asked}
+use Rattle.auditing.proofs.Stops.{file-refused, file-asked}
 use borrow.Author.Needs.{needs}
 use Rattle.auditing.proofs.audit_file.Statement.{statement}
 use Rattle.auditing.proofs.audit_file.Tie as tie
@@ -16,13 +15,13 @@ passed : (c : tie.After-enum-told) → fileQuestions (c .before .before .before 
 passed c = sym (c .before .before .questions .ensures .verdict) ∙ ap verdictOf (c .enum-told .given .1)
 
 questions-requires : tie.Need-questions-requires
-questions-requires c κs = length-replicate {A = ℕ} indexSize 0
+questions-requires c κs = search needs
 
 enum-known-answer : tie.Need-enum-known-answer
 enum-known-answer c = search needs
 
 returns : tie.Need-returns
-returns c = audit-stop-file _ _ _ (sym (c .before .before .before .questions .ensures .verdict) ∙ ap verdictOf (c .before .answer .given .1))
+returns c = file-refused refl (audit-stop-file _ _ _ (sym (c .before .before .before .questions .ensures .verdict) ∙ ap verdictOf (c .before .answer .given .1)))
 
 enum-told : tie.Need-enum-told
 enum-told c = search needs
@@ -35,15 +34,16 @@ refused-requires c κs = search needs
 
 returns-2 : tie.Need-returns-2
 returns-2 c =
-    c .refused .ensures ∙ audit-stop-values _ _ _ (passed (c .before .before .before)) (c .before .before .layout-of .ensures .states-are) (c .before .if1 .taken)
+    file-refused (c .refused .ensures)
+    (audit-stop-values _ _ _ (passed (c .before .before .before)) (c .before .before .layout-of .ensures .states-are) (c .before .if1 .taken))
 
 refused-requires-2 : tie.Need-refused-requires-2
 refused-requires-2 c κs = search needs
 
 returns-3 : tie.Need-returns-3
 returns-3 c =
-    c .refused2 .ensures
-    ∙ audit-stop-picks _ _ _ (passed (c .before .before .before .before)) (c .before .before .before .layout-of .ensures .states-are) (c .before .before .if1 .left) (c .before .if2 .taken)
+    file-refused (c .refused2 .ensures)
+    (audit-stop-picks _ _ _ (passed (c .before .before .before .before)) (c .before .before .before .layout-of .ensures .states-are) (c .before .before .if1 .left) (c .before .if2 .taken))
 
 table-questions-requires : tie.Need-table-questions-requires
 table-questions-requires c κs =
@@ -52,8 +52,11 @@ table-questions-requires c κs =
 
 returns-4 : tie.Need-returns-4
 returns-4 c =
-    audit-tables _ _ _ (passed (c .before .before .before .before .before)) (c .before .before .before .before .layout-of .ensures .states-are) (c .before .before .before .if1 .left) (c .before .before .if2 .left)
-    (c .table-questions .ensures)
+    file-asked
+    (tables-asked _ _ _ (passed (c .before .before .before .before .before)) (c .before .before .before .before .layout-of .ensures .states-are)
+    (c .before .before .before .before .before .before .before .questions .ensures .ready (ap verdictOf (c .before .before .before .before .before .enum-told .given .1))) (c .before .before .before .if1 .left) (c .before .before .if2 .left))
+    (audit-tables _ _ _ (passed (c .before .before .before .before .before)) (c .before .before .before .before .layout-of .ensures .states-are) (c .before .before .before .if1 .left) (c .before .before .if2 .left)
+    (c .table-questions .ensures))
 
 pub audit-file-spec : {M : Type 1} → statement M
 audit-file-spec =

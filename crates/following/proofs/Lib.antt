@@ -1,0 +1,2 @@
+-- Laws on plain values that the answers cite.
+pub mod Moves

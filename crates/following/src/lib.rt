@@ -1,0 +1,84 @@
+// Following a plan through the shift: a record is opened on a file with its tables, and each report moves it on.
+// `open_at_start` and `step` take the record by value and hand it back; `report` changes it in place.
+mod moving;
+
+use crate::moving::report_on;
+use crate::moving::turned_down;
+use auditing::audit_file;
+use model::AuditAnswer;
+use model::FollowAnswer;
+use model::Follower;
+use reading::index::INDEX;
+use reading::settings::start_of;
+ghost use Rattle.model.specs.Following.{opening, report as model-report};
+ghost use Rattle.model.specs.Promises.{Answered};
+
+// The record after an opening or a report, and the answer.
+pub struct Stepped {
+    pub follower: Follower,
+    pub answer: FollowAnswer,
+}
+
+// Opens a follower at the start of a file, on the plan of two tables, where the audit accepts them. A refusal hands the record
+// back as it was.
+pub fn open_at_start(w: Follower, file: &[u8], values: &[u32], picks: &[u16]) -> Stepped
+    ensures { λ r.
+        ⌜ Answered
+        (r .answer) (r .follower) (opening (now (file .entry)) (now (values .entry)) (now (picks .entry)) w) ⌝ }
+{
+    let mut index = [0u32; INDEX];
+    let audited = audit_file(file, values, picks, &mut index);
+    if let AuditAnswer::Refused {
+        question,
+        place,
+        excess,
+    } = audited {
+        return turned_down(w, question, place, excess);
+    }
+    Stepped {
+        follower: Follower {
+            state: start_of(file) as u64,
+            moves: 0,
+            seconds: 0,
+            mark: 0,
+        },
+        answer: FollowAnswer::Done,
+    }
+}
+
+// One report: outcome `outcome` of the pick at the record's state occurred. A refusal hands the record back as it was.
+pub fn step(w: Follower, file: &[u8], values: &[u32], picks: &[u16], outcome: u64) -> Stepped
+    ensures { λ r.
+        ⌜ Answered
+        (r .answer) (r .follower)
+        (model-report (now (file .entry)) (now (values .entry)) (now (picks .entry)) w outcome) ⌝ }
+{
+    let mut index = [0u32; INDEX];
+    let audited = audit_file(file, values, picks, &mut index);
+    if let AuditAnswer::Refused {
+        question,
+        place,
+        excess,
+    } = audited {
+        return turned_down(w, question, place, excess);
+    }
+    report_on(w, file, &index, picks, outcome)
+}
+
+// One report on a record that is lent: it is altered in place.
+pub fn report(
+    w: &mut Follower,
+    file: &[u8],
+    values: &[u32],
+    picks: &[u16],
+    outcome: u64,
+) -> FollowAnswer
+    ensures { λ r.
+        ⌜ Answered
+        r (now (w .exit))
+        (model-report (now (file .entry)) (now (values .entry)) (now (picks .entry)) (now (w .entry)) outcome) ⌝ }
+{
+    let s = step(*w, file, values, picks, outcome);
+    *w = s.follower;
+    s.answer
+}

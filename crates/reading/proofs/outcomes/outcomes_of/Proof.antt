@@ -1,0 +1,72 @@
+-- `outcomes_of` answers the part of the file that the index gives to the row.
+-- Made by `places make` from answers/outcomes/outcomes_of.ans: edit that file, and not this one.
+use Rattle.reading.proofs.RowValues.{row-at, part-ordered, part-inside, part-holds}
+use borrow.Author.Needs.{needs}
+use native.Mathlib.Omega.{arith}
+use Rattle.reading.proofs.outcomes.outcomes_of.Statement.{statement}
+use Rattle.reading.proofs.outcomes.outcomes_of.Tie as tie
+
+mul-from : tie.Need-mul-from
+mul-from c = search needs
+
+add-from : tie.Need-add-from
+add-from c = search needs
+
+mul-from-2 : tie.Need-mul-from-2
+mul-from-2 c = search needs
+
+element-copy-out-from : tie.Need-element-copy-out-from
+element-copy-out-from c = search needs
+
+cast-from : tie.Need-cast-from
+cast-from c = omega (arith, part-ordered (row-at (c .before .pre .0) (c .before .pre .1)), part-inside (row-at (c .before .pre .0) (c .before .pre .1)))
+
+mul-to : tie.Need-mul-to
+mul-to c = search needs
+
+add-to : tie.Need-add-to
+add-to c = search needs
+
+add-to-2 : tie.Need-add-to-2
+add-to-2 c = search needs
+
+mul-to-2 : tie.Need-mul-to-2
+mul-to-2 c = search needs
+
+element-copy-out-to : tie.Need-element-copy-out-to
+element-copy-out-to c = search needs
+
+cast-to : tie.Need-cast-to
+cast-to c = omega (arith, part-ordered (row-at (c .before .before .pre .0) (c .before .before .pre .1)), part-inside (row-at (c .before .before .pre .0) (c .before .before .pre .1)))
+
+sub-result : tie.Need-sub-result
+sub-result c = part-ordered (row-at (c .before .before .pre .0) (c .before .before .pre .1))
+
+part-result-start : tie.Need-part-result-start
+part-result-start c = part-ordered (row-at (c .before .before .pre .0) (c .before .before .pre .1))
+
+part-result-end : tie.Need-part-result-end
+part-result-end c = part-inside (row-at (c .before .before .pre .0) (c .before .before .pre .1))
+
+returns : tie.Need-returns
+returns c = part-holds (row-at (c .before .before .before .pre .0) (c .before .before .before .pre .1))
+
+pub outcomes-of-spec : {M : Type 1} → statement M
+outcomes-of-spec =
+    tie.close
+    (tie.spec
+    mul-from
+    add-from
+    mul-from-2
+    element-copy-out-from
+    cast-from
+    mul-to
+    add-to
+    add-to-2
+    mul-to-2
+    element-copy-out-to
+    cast-to
+    sub-result
+    part-result-start
+    part-result-end
+    returns)
