@@ -21,10 +21,9 @@ use Rattle.model.specs.Value.{byState}
 use Rattle.model.specs.Walk.{successors}
 use Rattle.model.specs.declared.FollowAnswer.{FollowAnswer}
 use Rattle.model.specs.declared.Follower.{Follower}
-use Rattle.guarantee.specs.Follows.{asked-occurs, asked-moves, asked-seconds}
-use Rattle.guarantee.specs.Follows.{occurs-state as state-in, occurs-row as row-in, occurs-outcome as outcome-in}
+use Rattle.guarantee.specs.Occurs.{asked-occurs, asked-moves, asked-seconds}
+use Rattle.guarantee.specs.Occurs.{occurs-state as state-in, occurs-row as row-in, occurs-outcome as outcome-in}
 use Rattle.guarantee.specs.Walks.{own-row}
-use Rattle.reading.specs.Ready.{Ready}
 use Rattle.reading.specs.RowParts.{rows-begin, rows-end, secondsAt, index-seconds}
 use Rattle.following.specs.Asked.{Followable, Occurs}
 

@@ -14,7 +14,7 @@ use Rattle.model.specs.Problem.{Problem, giveUpCost, ownRow}
 use Rattle.model.specs.Value.{byState, rowValue}
 use Rattle.model.specs.Sections.{problemOf}
 use Rattle.model.specs.Questions.{passes, fails, _then_, fileQuestions}
-use Rattle.model.specs.Walk.{In, walk, Reached, pickCost, leastCost}
+use Rattle.model.specs.Walk.{In, walk, Reached, successors, pickCost, leastCost}
 use Rattle.model.specs.Rounds.{Machine, scanOf, backup, backups, walked, round, machineStart, runOf, bellman}
 use Rattle.model.specs.Solution.{fine, Tables, solved, spent, refused, solutionOf, solveQuestions, solution}
 use Rattle.model.specs.Audit.{accepted, refused as audit-refused, ownPick, audit}
@@ -37,9 +37,10 @@ use Rattle.guarantee.specs.Hollow.{table-too-dear}
 use Rattle.guarantee.specs.Underway.{Underway, turn-open, underway-start, underway-walked, underway-backup, scan-any-memory}
 use Rattle.guarantee.specs.Solutions.{lent-sound, solution-run, solution-ends, spent-budget, refused-by}
 use Rattle.guarantee.specs.Solutions.{never-fourteen, answer-accepted, answer-gives-up}
-use Rattle.guarantee.specs.Follows.{Came, opened, opens, audit-first, opening-stays, report-stays, nothing-follows, reports-came}
-use Rattle.guarantee.specs.Follows.{Underway as Following, reports-underway, outcome-missing, moves-spent}
-use Rattle.guarantee.specs.Follows.{goal-ended, given-up-ended, ended-refused, ended-stays}
+use Rattle.guarantee.specs.Follows.{opened, opens, audit-first, opening-stays, report-stays, ended-refused, given-up-ended}
+use Rattle.guarantee.specs.Follows.{given-up-left, row-left}
+use Rattle.guarantee.specs.Shifts.{Came, nothing-follows, reports-came, Underway as Following, reports-underway, goal-ended}
+use Rattle.guarantee.specs.Shifts.{outcome-missing, moves-spent, ended-stays}
 
 -- Demand 3: "Take any file, table V and plan that the audit accepts; e is the file's tolerance and C the least cost on the plan, both in
 -- ticks."
@@ -313,6 +314,25 @@ module _ (f values picks : List ℕ) where
       : (w : Follower) (o q i : ℕ) (excess : ℤ) → report f values picks w o .answer ≡ report-refused q i excess
       → report f values picks w o .left ≡ w
   refused-report w o q i excess = report-stays f values picks w o
+
+  -- "A state that gives up has outcome 0 only: it counts as a move, adds D, keeps the state, sets a mark in the record"
+  pub giving-up-report
+      : (w : Follower) (o : ℕ) → report f values picks w o .answer ≡ done → byState picks (w .state) ≡ giveUp
+      → (o ≡ 0) × (report f values picks w o .left
+      ≡ record { state = w .state; moves = w .moves + 1; seconds = w .seconds + problemOf f .penalty; mark = 1 })
+  giving-up-report = given-up-left f values picks
+
+  -- "Each report names which outcome of the picked row occurred, counted from 0.": the record goes where it leads, and the mark is clear
+  pub row-report
+      : (w : Follower) (o : ℕ) → report f values picks w o .answer ≡ done → (byState picks (w .state) ≡ giveUp → ⊥)
+      → (o < length (problemOf f .outcomes (byState picks (w .state)))) × (report f values picks w o .left
+      ≡ record {
+        state = getD (successors (problemOf f) (byState picks (w .state))) o (w .state);
+        moves = w .moves + 1;
+        seconds = w .seconds + problemOf f .cost (byState picks (w .state));
+        mark = 0;
+      })
+  row-report = row-left f values picks
 
 -- "For every list of reports from opening, all on one file and plan": a follower that was opened, and a list of reports
 module _ (f values picks : List ℕ) (lent : Follower) (opens-done : opening f values picks lent .answer ≡ done) (os : List ℕ) where

@@ -31,7 +31,9 @@ pub mod Solutions
 pub mod Hollow
 pub mod Beyond
 pub mod Underway
+pub mod Occurs
 pub mod Follows
+pub mod Shifts
 pub mod Guarantee
 pub mod Instances
 pub mod Excess
