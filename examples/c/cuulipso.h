@@ -58,10 +58,6 @@ struct cuulipso_record {
     uint64_t mark;
 };
 
-/* A report meets question 21 at so many moves or more, or above so many seconds. */
-#define CUULIPSO_MOVES UINT64_C(1000000)
-#define CUULIPSO_SECONDS UINT64_C(400000000000)
-
 /* Opening and each report put the audit's questions first, and change neither the file nor the tables. A refusal leaves the record as it
  * was, and so does an answer's table that is too short. */
 
@@ -74,8 +70,8 @@ uint8_t cuulipso_open(const uint8_t *file, size_t file_length,
 
 /* Reports which outcome of the picked row occurred, counted from 0: the record moves to its successor, one move and the row's seconds on.
  * A state that gives up has outcome 0 only: one move, D seconds, the same state, and the mark is set. After the audit's questions a
- * report meets 20 where the mark is set or the state is a goal, 21 at the limits above, and 22 where the state is not in the file, has no
- * pick of its own, or its pick has no such outcome; place 0, excess 0. */
+ * report meets 20 where the mark is set or the state is a goal, 21 at 1,000,000 moves or more or above 400,000,000,000 seconds, and 22
+ * where the state is not in the file, has no pick of its own, or its pick has no such outcome; place 0, excess 0. */
 uint8_t cuulipso_report(const uint8_t *file, size_t file_length,
                         const uint32_t *values, size_t values_length,
                         const uint16_t *picks, size_t picks_length,

@@ -17,6 +17,7 @@ use Rattle.model.specs.Audit.{Audited, accepted, refused, pickValueOn, pickValu
 use Rattle.model.specs.Audit.{tableQuestions, problemAudit, audit}
 use Rattle.guarantee.specs.Excess.{undercut-own}
 use Rattle.reading.specs.Ready.{Ready, Undercuts}
+use Rattle.checking.specs.IndexLeft.{indexLeft}
 use Rattle.walking.specs.Walkable.{walkable}
 use Rattle.auditing.specs.StateTests.{pickQuestions}
 use Rattle.auditing.specs.TablesAsked.{TablesAsked, FileAudited}
@@ -112,21 +113,22 @@ module _ (f values picks : List ℕ) where
     tables-asked ready v h =
         record { walkable = walkable passed ready; states-are = states-are; values-long = v; picks-long = h }
 
--- what is said of the index: nothing after a refusal, and else what the questions about the tables asked for
-module _ {f values picks index : List ℕ} {said : Audited} where
+-- what is said of the index: how questions 1 to 11 left it, and where the audit accepts what the questions about the tables asked for
+module _ {f values picks before index : List ℕ} {said : Audited} (left : index ≡ indexLeft f before) where
   pub file-refused : {q i : ℕ} {z : ℤ} → said ≡ refused q i z → refused q i z ≡ audit f values picks
-      → FileAudited f values picks index said
+      → FileAudited f values picks before index said
   file-refused e h =
-      record { answer = e ∙ h; walkable = λ C a. absurd (none e a); picks-long = λ C a. absurd (none e a) }
+      record { answer = e ∙ h; left = left; walkable = λ C a. absurd (none e a); picks-long = λ C a. absurd (none e a) }
     where
       none : {q i C : ℕ} {z : ℤ} → said ≡ refused q i z → said ≡ accepted C → ⊥
       none e a = true≢false (cc)
 
   pub file-asked : {n : ℕ} → TablesAsked f index values picks n → said ≡ audit f values picks
-      → FileAudited f values picks index said
+      → FileAudited f values picks before index said
   file-asked asked h =
       record {
         answer = h;
+        left = left;
         walkable = λ C a. asked .walkable;
         picks-long = λ C a. omega (arith, asked .states-are, asked .picks-long);
       }

@@ -6,6 +6,7 @@ use lib.ListN.{length}
 use Rattle.model.specs.Audit.{Audited, accepted, audit}
 use Rattle.model.specs.Problem.{giveUpCost}
 use Rattle.model.specs.Sections.{problemOf}
+use Rattle.checking.specs.IndexLeft.{indexLeft}
 use Rattle.walking.specs.Walkable.{Walkable}
 use Rattle.walking.specs.Costs.{Costed}
 
@@ -24,8 +25,9 @@ pub record CloseAsked (f index values picks marks : List ℕ) (limit tolerance :
   pub limit-is : limit ≡ giveUpCost (problemOf f)
   pub tolerance-is : tolerance ≡ problemOf f .tolerance
 
--- the audit's answer, and the index of the file where it accepts
-pub record FileAudited (f values picks index : List ℕ) (said : Audited) : Type 0 where
+-- the audit's answer; the index as questions 1 to 11 leave it, and that of the file where the audit accepts
+pub record FileAudited (f values picks before index : List ℕ) (said : Audited) : Type 0 where
   pub answer : said ≡ audit f values picks
+  pub left : index ≡ indexLeft f before
   pub walkable : (C : ℕ) → said ≡ accepted C → Walkable f index
   pub picks-long : (C : ℕ) → said ≡ accepted C → problemOf f .states ≤ length picks

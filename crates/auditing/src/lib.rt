@@ -29,7 +29,9 @@ pub fn audit_file(
 ) -> AuditAnswer
     requires { ⌜ length (now index) ≡ indexSize ⌝ }
     ensures { λ r.
-        ⌜ FileAudited (now (file .entry)) (now (values .entry)) (now (picks .entry)) (now (index .exit)) (auditedOf r) ⌝ }
+        ⌜ FileAudited
+        (now (file .entry)) (now (values .entry)) (now (picks .entry)) (now (index .entry)) (now (index .exit))
+        (auditedOf r) ⌝ }
 {
     let answer = questions(file, index);
     if let FileAnswer::Refused { question, place } = answer {

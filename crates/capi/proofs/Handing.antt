@@ -16,10 +16,10 @@ use Rattle.model.specs.Promises.{Answered}
 use Rattle.following.specs.declared.Stepped.{Stepped}
 use Rattle.capi.specs.Steps.{Showable, HandedOn}
 
-shown-fits : (f values picks : List ℕ) (s : Stepped) (said : Report) → Answered (s .answer) (s .follower) said
-    → (said .answer ≡ done → Shown f values picks (said .left)) → Showable s
-shown-fits f values picks s said says shown =
-    let low : followedOf (s .answer) ≡ done → Shown f values picks (s .follower) =
+shown-fits : (s : Stepped) (said : Report) → Answered (s .answer) (s .follower) said
+    → (said .answer ≡ done → Shown (said .left)) → Showable s
+shown-fits s said says shown =
+    let low : followedOf (s .answer) ≡ done → Shown (s .follower) =
     λ e. rw (says .left-is) (shown (sym (says .answer-is) ∙ e)) in
     record {
       state-fits = λ e. omega (arith, low e .state-low);
@@ -29,10 +29,10 @@ shown-fits f values picks s said says shown =
 
 module _ (f values picks : List ℕ) (w : Follower) {s : Stepped} where
   pub opening-fits : Answered (s .answer) (s .follower) (opening f values picks w) → Showable s
-  opening-fits says = shown-fits f values picks s _ says (opening-shown f values picks w)
+  opening-fits says = shown-fits s _ says (opening-shown f values picks w)
 
   pub report-fits : (o : ℕ) → Answered (s .answer) (s .follower) (report f values picks w o) → Showable s
-  report-fits o says = shown-fits f values picks s _ says (report-shown f values picks w o)
+  report-fits o says = shown-fits s _ says (report-shown f values picks w o)
 
 module _ {said : Report} {lent left : List ℕ} {before after : List ℤ} {status : ℕ} where
   pub hands-on : {s : Stepped} → Answered (s .answer) (s .follower) said → 3 ≤ length before → HandedOn s lent left before after status

@@ -10,7 +10,7 @@ use lib.ListN.{getD, length}
 use borrow.Author.Tests.{le-ltb, lt-ltb, eq-eqb, ne-eqb}
 use Rattle.model.specs.Answers.{followedOf}
 use Rattle.model.specs.Audit.{accepted, refused as audit-refused, audit}
-use Rattle.model.specs.Following.{leadsTo, moveSeconds, ended, inShift, hasOutcome, mayOccur, reportQuestions, done, refused}
+use Rattle.model.specs.Following.{leadsTo, moveSeconds, atEnd, inShift, hasOutcome, mayOccur, reportQuestions, done, refused}
 use Rattle.model.specs.Following.{Report, follow, atStart, opening, moved, report}
 use Rattle.model.specs.Limits.{giveUp, maxMoves, maxSpent}
 use Rattle.model.specs.Problem.{ownRow}
@@ -25,19 +25,19 @@ use Rattle.guarantee.specs.Occurs.{asked-occurs, asked-moves, asked-seconds}
 use Rattle.guarantee.specs.Occurs.{occurs-state as state-in, occurs-row as row-in, occurs-outcome as outcome-in}
 use Rattle.guarantee.specs.Walks.{own-row}
 use Rattle.reading.specs.RowParts.{rows-begin, rows-end, secondsAt, index-seconds}
-use Rattle.following.specs.Asked.{Followable, Occurs}
+use Rattle.following.specs.Asked.{Followable, Occurring}
 
 -- question 20
 
 module _ (f : List ℕ) (w : Follower) where
-  pub marked-ended : (w .mark ≡ 0 → ⊥) → false ≡ not (ended (problemOf f) w)
+  pub marked-ended : (w .mark ≡ 0 → ⊥) → false ≡ not (atEnd (problemOf f) w)
   marked-ended m = rw (ne-eqb (w .mark) 0 m) refl
 
-  pub outside-open : w .mark ≡ 0 → problemOf f .states ≤ w .state → true ≡ not (ended (problemOf f) w)
+  pub outside-open : w .mark ≡ 0 → problemOf f .states ≤ w .state → true ≡ not (atEnd (problemOf f) w)
   outside-open m l = rw (eq-eqb (w .mark) 0 m, le-ltb (w .state) (problemOf f .states) l) refl
 
   pub inside-open : w .mark ≡ 0 → w .state < problemOf f .states → {b : Bool} → b ≡ problemOf f .goal (w .state)
-      → not b ≡ not (ended (problemOf f) w)
+      → not b ≡ not (atEnd (problemOf f) w)
   inside-open m l e = rw (eq-eqb (w .mark) 0 m, lt-ltb (w .state) (problemOf f .states) l) (ap not e)
 
 -- question 22
@@ -75,12 +75,12 @@ module _ {f index picks : List ℕ} (h : Followable f index picks) (s o : ℕ) w
 
 -- the move
 
-module _ {f index picks : List ℕ} {w : Follower} {o : ℕ} (h : Occurs f index picks w o) where
+module _ {f index picks : List ℕ} {w : Follower} {o : ℕ} (h : Occurring f index picks w o) where
   abbrev taken : ℕ
   taken = getD picks (w .state) 0
 
-  asked-22 : mayOccur (problemOf f) (byState picks) (w .state) o ≡ true
-  asked-22 = asked-occurs (problemOf f) (byState picks) w o (h .asked)
+  may-occur : mayOccur (problemOf f) (byState picks) (w .state) o ≡ true
+  may-occur = asked-occurs (problemOf f) (byState picks) w o (h .asked)
 
   pub occurs-room : (w .moves < maxMoves) × (w .seconds ≤ maxSpent)
   occurs-room =
@@ -88,7 +88,7 @@ module _ {f index picks : List ℕ} {w : Follower} {o : ℕ} (h : Occurs f index
       (asked-moves p (byState picks) w o (h .asked), asked-seconds p (byState picks) w o (h .asked))
 
   pub occurs-inside : w .state < problemOf f .states
-  occurs-inside = state-in (problemOf f) (byState picks) (w .state) o asked-22
+  occurs-inside = state-in (problemOf f) (byState picks) (w .state) o may-occur
 
   pub gave-up-moved : taken ≡ giveUp → {d : ℕ} → d ≡ problemOf f .penalty → {r : Follower}
       → r ≡ record { state = w .state; moves = w .moves + 1; seconds = w .seconds + d; mark = 1 }
@@ -98,10 +98,10 @@ module _ {f index picks : List ℕ} {w : Follower} {o : ℕ} (h : Occurs f index
 
   module _ (n : taken ≡ giveUp → ⊥) where
     pub occurs-row : taken < problemOf f .rows
-    occurs-row = row-in (problemOf f) (byState picks) (w .state) o asked-22 (h .followable .walkable .formed) n
+    occurs-row = row-in (problemOf f) (byState picks) (w .state) o may-occur (h .followable .walkable .formed) n
 
     pub occurs-outcome : o < length (problemOf f .outcomes taken)
-    occurs-outcome = outcome-in (problemOf f) (byState picks) (w .state) o asked-22 n
+    occurs-outcome = outcome-in (problemOf f) (byState picks) (w .state) o may-occur n
 
     pub went-moved : {t : ℕ} → ((s : ℕ) → t ≡ getD (successors (problemOf f) taken) o s)
         → {c : ℕ} → c ≡ secondsAt index taken
@@ -129,7 +129,7 @@ module _ {f index picks : List ℕ} (h : Followable f index picks) (w : Follower
       → Answered answer left (refusal q w) → (C : ℕ) → Answered answer left (reported f picks w o C)
   stops e said C = rw e said
 
-  module _ {a : Bool} (first : a ≡ not (ended (problemOf f) w)) where
+  module _ {a : Bool} (first : a ≡ not (atEnd (problemOf f) w)) where
     pub stops-20 : a ≡ false → {answer : FollowAnswer} {left : Follower}
         → Answered answer left (refusal 20 w) → (C : ℕ) → Answered answer left (reported f picks w o C)
     unfolding reportQuestions

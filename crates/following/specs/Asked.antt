@@ -16,6 +16,6 @@ pub record Followable (f index picks : List ℕ) : Type 0 where
   pub picks-long : problemOf f .states ≤ length picks
 
 -- a report on it to which questions 20 to 22 say yes
-pub record Occurs (f index picks : List ℕ) (w : Follower) (o : ℕ) : Type 0 where
+pub record Occurring (f index picks : List ℕ) (w : Follower) (o : ℕ) : Type 0 where
   pub followable : Followable f index picks
   pub asked : reportQuestions (problemOf f) (byState picks) w o ≡ passes

@@ -19,7 +19,7 @@ ghost use lib.Dec.{leb, ltb};
 ghost use lib.IntN.{pos};
 ghost use lib.ListN.{getD, length};
 ghost use Rattle.model.specs.Audit.{accepted};
-ghost use Rattle.model.specs.Following.{ended, inShift, mayOccur, moved as model-moved};
+ghost use Rattle.model.specs.Following.{atEnd, inShift, mayOccur, moved as model-moved};
 ghost use Rattle.model.specs.Following.{refused as report-refused, reportQuestions, follow};
 ghost use Rattle.model.specs.Limits.{maxMoves, maxSpent, maxStates};
 ghost use Rattle.model.specs.Promises.{Answered};
@@ -28,12 +28,12 @@ ghost use Rattle.model.specs.Sections.{problemOf};
 ghost use Rattle.model.specs.Value.{byState};
 ghost use Rattle.model.specs.Walk.{successors};
 ghost use Rattle.reading.specs.Ready.{Ready};
-ghost use Rattle.following.specs.Asked.{Followable, Occurs};
+ghost use Rattle.following.specs.Asked.{Followable, Occurring};
 
 // Question 20 says yes: the mark is clear, and the record's state is no goal. A number that is no state is no goal.
 fn is_open(file: &[u8], n: usize, w: Follower) -> bool
     requires { ⌜ (layoutQuestions (now file) ≡ passes) × (n ≡ problemOf (now file) .states) ⌝ }
-    ensures { λ r. ⌜ r ≡ not (ended (problemOf (now (file .entry))) w) ⌝ }
+    ensures { λ r. ⌜ r ≡ not (atEnd (problemOf (now (file .entry))) w) ⌝ }
 {
     if w.mark != 0 {
         return false;
@@ -124,7 +124,7 @@ fn led(file: &[u8], index: &[u32; INDEX], r: usize, outcome: u64) -> u64
 
 // The record after a move.
 fn moved(file: &[u8], index: &[u32; INDEX], picks: &[u16], w: Follower, outcome: u64) -> Follower
-    requires { ⌜ Occurs (now file) (now index) (now picks) w outcome ⌝ }
+    requires { ⌜ Occurring (now file) (now index) (now picks) w outcome ⌝ }
     ensures { λ r. ⌜ r ≡ model-moved (problemOf (now (file .entry))) (byState (now (picks .entry))) w outcome ⌝ }
 {
     let s = w.state as usize;

@@ -7,19 +7,27 @@ use mathlib.Core.Bool.{true, false, true≢false}
 use mathlib.Core.List.{List}
 use lib.IntN.{ℤ, pos}
 use lib.ListN.{getD, length}
-use borrow.Author.Tests.{eqb-true, eq-eqb, ne-eqb}
+use borrow.Author.Tests.{eqb-true, eq-eqb, ne-eqb, lt-ltb, le-leb}
 use Rattle.model.specs.Limits.{giveUp, maxStates, maxMoves, maxSpent, maxPenalty}
 use Rattle.model.specs.Value.{byState}
 use Rattle.model.specs.Sections.{problemOf}
 use Rattle.model.specs.Questions.{Verdict, passes, fails}
 use Rattle.model.specs.Walk.{successors}
-use Rattle.model.specs.Audit.{Audited, accepted, refused as audit-refused, audit}
-use Rattle.model.specs.Following.{leadsTo, moveSeconds, ended, reportQuestions, done, refused, Report, follow}
-use Rattle.model.specs.Following.{atStart, opening, moved, report}
+use Rattle.model.specs.Audit.{Audited, accepted, refused as audit-refused, ownPick, audit}
+use Rattle.model.specs.Following.{leadsTo, moveSeconds, atEnd, hasOutcome, mayOccur, reportQuestions, done, refused, Report}
+use Rattle.model.specs.Following.{follow, atStart, opening, moved, report}
 use Rattle.model.specs.declared.Follower.{Follower}
+use Rattle.guarantee.specs.Searches.{and-both}
 use Rattle.guarantee.specs.Accepted.{audit-formed}
 use Rattle.guarantee.specs.Occurs.{or-clear, open-goal, asked-moves, asked-occurs, asked-open, asked-seconds}
-use Rattle.guarantee.specs.Occurs.{occurs-state, occurs-given, occurs-outcome, occurs-leads, occurs-seconds}
+use Rattle.guarantee.specs.Occurs.{occurs-state, occurs-pick, occurs-has, occurs-given, occurs-outcome, occurs-leads, occurs-seconds}
+
+-- what a record shows where the answer is done: a state of the file, at most a million moves, the seconds of the last move over the
+-- most that a report takes
+pub record Shown (w : Follower) : Type 0 where
+  pub state-low : w .state < maxStates
+  pub moves-low : w .moves ≤ maxMoves
+  pub seconds-low : w .seconds ≤ maxSpent + maxPenalty
 
 module _ (f values picks : List ℕ) where
   -- what a report does: it is refused and the record stays, or every question says yes and it moves on
@@ -94,18 +102,18 @@ module _ (f values picks : List ℕ) where
           same h = cc
 
   -- at its end the record meets 20 and stays
-  pub ended-refused : {C : ℕ} → audit f values picks ≡ accepted C → (w : Follower) → ended (problemOf f) w ≡ true → (o : ℕ)
+  pub ended-refused : {C : ℕ} → audit f values picks ≡ accepted C → (w : Follower) → atEnd (problemOf f) w ≡ true → (o : ℕ)
       → report f values picks w o ≡ record { answer = refused 20 0 (pos 0); left = w }
   unfolding report reportQuestions
   ended-refused a w e o = rw (a, e) refl
 
   -- giving up sets the mark
   pub given-up-ended : (w : Follower) (o : ℕ) → report f values picks w o .answer ≡ done → byState picks (w .state) ≡ giveUp
-      → ended (problemOf f) (report f values picks w o .left) ≡ true
+      → atEnd (problemOf f) (report f values picks w o .left) ≡ true
   unfolding moved
   given-up-ended w o h g = step (report f values picks w o) (reported w o) h
     where
-      step : (r : Report) → Reported w o r → r .answer ≡ done → ended (problemOf f) (r .left) ≡ true
+      step : (r : Report) → Reported w o r → r .answer ≡ done → atEnd (problemOf f) (r .left) ≡ true
       step _ stays h = absurd (true≢false (cc))
       step _ (moves C a v) h = rw (eq-eqb (byState picks (w .state)) giveUp g) refl
 
@@ -151,6 +159,47 @@ module _ (f values picks : List ℕ) where
             rw (ne-eqb (byState picks (w .state)) giveUp n, clear) refl,
           )
 
+  -- a report is done exactly where the audit accepts and questions 20 to 22 say yes, each told by what it asks
+  pub record Takes (w : Follower) (o : ℕ) : Type 0 where
+    pub accepts : (C : ℕ) × (audit f values picks ≡ accepted C)
+    pub mark-clear : w .mark ≡ 0
+    pub state-there : w .state < problemOf f .states
+    pub no-goal : problemOf f .goal (w .state) ≡ false
+    pub moves-few : w .moves < maxMoves
+    pub seconds-few : w .seconds ≤ maxSpent
+    pub pick-own : ownPick (problemOf f) (w .state) (byState picks (w .state)) ≡ true
+    pub outcome-there : hasOutcome (problemOf f) (byState picks (w .state)) o ≡ true
+
+  pub done-takes : (w : Follower) (o : ℕ) → report f values picks w o .answer ≡ done → Takes w o
+  done-takes w o h = step (report f values picks w o) (reported w o) h
+    where
+      step : (r : Report) → Reported w o r → r .answer ≡ done → Takes w o
+      step _ stays h = absurd (true≢false (cc))
+      step _ (moves C a v) h =
+          let p = problemOf f in
+          let occurs = asked-occurs p (byState picks) w o v in
+          let state = occurs-state p (byState picks) (w .state) o occurs in
+          record {
+            accepts = (C, a);
+            mark-clear = eqb-true (w .mark) 0 (or-clear _ _ (asked-open p (byState picks) w o v));
+            state-there = state;
+            no-goal = open-goal p w (asked-open p (byState picks) w o v) state;
+            moves-few = asked-moves p (byState picks) w o v;
+            seconds-few = asked-seconds p (byState picks) w o v;
+            pick-own = occurs-pick p (byState picks) (w .state) o occurs;
+            outcome-there = occurs-has p (byState picks) (w .state) o occurs;
+          }
+
+  pub takes-done : (w : Follower) (o : ℕ) → Takes w o → report f values picks w o .answer ≡ done
+  unfolding report reportQuestions
+  takes-done w o t =
+      let inside = lt-ltb (w .state) (problemOf f .states) (t .state-there) in
+      let first : atEnd (problemOf f) w ≡ false = rw (eq-eqb (w .mark) 0 (t .mark-clear), inside, t .no-goal) refl in
+      let second = and-both (lt-ltb (w .moves) maxMoves (t .moves-few)) (le-leb (w .seconds) maxSpent (t .seconds-few)) in
+      let third : mayOccur (problemOf f) (byState picks) (w .state) o ≡ true =
+      and-both inside (and-both (t .pick-own) (t .outcome-there)) in
+      rw (t .accepts .1, first, second, third) refl
+
   -- which of a report's questions said no
   pub report-failed : {C : ℕ} → audit f values picks ≡ accepted C → (w : Follower) (o : ℕ) {q i : ℕ} {z : ℤ}
       → report f values picks w o .answer ≡ refused q i z → reportQuestions (problemOf f) (byState picks) w o ≡ fails q i
@@ -164,13 +213,6 @@ module _ (f values picks : List ℕ) where
         where
           same : refused q i (pos 0) ≡ refused q′ i′ z → fails q i ≡ fails q′ i′
           same h = cc
-
-  -- what a record shows where the answer is done: a state of the file, at most a million moves, the seconds of the last move over the
-  -- most that a report takes
-  pub record Shown (w : Follower) : Type 0 where
-    pub state-low : w .state < maxStates
-    pub moves-low : w .moves ≤ maxMoves
-    pub seconds-low : w .seconds ≤ maxSpent + maxPenalty
 
   pub opening-shown : (w : Follower) → opening f values picks w .answer ≡ done → Shown (opening f values picks w .left)
   opening-shown w h =

@@ -1,6 +1,6 @@
 -- What is promised of the rules of documents 01 and 02: each sentence is quoted over the theorem that it is, and a proof is a line
--- that cites. Nothing has to be believed but the model; the statements add `Met`, `after` and `taken` below, and `Accepts`, `Allowed`,
--- `Beyond` and `machineOf` of other files.
+-- that cites. Nothing has to be believed but the model; the statements add `Met`, `after` and `taken` below, and `Accepts`, `Takes`,
+-- `Allowed`, `Beyond` and `machineOf` of other files.
 use mathlib.Core.Path.{_≡_, _∙_, ap}
 use Prim.Native.Nat.{ℕ, _+_, _-_, _*_, _≤_, _<_}
 use native.Mathlib.Omega.{arith}
@@ -38,9 +38,9 @@ use Rattle.guarantee.specs.Underway.{Underway, turn-open, underway-start
 use Rattle.guarantee.specs.Solutions.{lent-sound, solution-run, solution-ends, spent-budget, refused-by}
 use Rattle.guarantee.specs.Solutions.{never-fourteen, answer-accepted, answer-gives-up}
 use Rattle.guarantee.specs.Follows.{opened, opens, audit-first, opening-stays, report-stays, ended-refused, given-up-ended}
-use Rattle.guarantee.specs.Follows.{given-up-left, row-left}
-use Rattle.guarantee.specs.Shifts.{Came, nothing-follows, reports-came, Underway as Following, reports-underway, goal-ended}
-use Rattle.guarantee.specs.Shifts.{outcome-missing, moves-spent, ended-stays}
+use Rattle.guarantee.specs.Follows.{given-up-left, row-left, Takes, done-takes, takes-done}
+use Rattle.guarantee.specs.Shifts.{Came, nothing-follows, reports-came, OnTheWay, reports-underway, goal-ended}
+use Rattle.guarantee.specs.Shifts.{outcome-missing, way-goes-on, moves-spent, ended-stays}
 
 -- Demand 3: "Take any file, table V and plan that the audit accepts; e is the file's tolerance and C the least cost on the plan, both in
 -- ticks."
@@ -315,6 +315,11 @@ module _ (f values picks : List ℕ) where
       → report f values picks w o .left ≡ w
   refused-report w o q i excess = report-stays f values picks w o
 
+  -- "Then a report meets 20 .., 21 .., and 22 ..": it is done exactly when these and the audit's questions say yes. The record `Takes`
+  -- tells what each asks in plain facts
+  pub report-exactly : (w : Follower) (o : ℕ) → (report f values picks w o .answer ≡ done) ↔ Takes f values picks w o
+  report-exactly w o = (done-takes f values picks w o, takes-done f values picks w o)
+
   -- "A state that gives up has outcome 0 only: it counts as a move, adds D, keeps the state, sets a mark in the record"
   pub giving-up-report
       : (w : Follower) (o : ℕ) → report f values picks w o .answer ≡ done → byState picks (w .state) ≡ giveUp
@@ -353,7 +358,7 @@ module _ (f values picks : List ℕ) (lent : Follower) (opens-done : opening f v
   came : Came f values picks (atStart (problemOf f)) taken after
   came = rw began (reports-came f values picks os (atStart (problemOf f)))
 
-  following : Following f values picks after
+  following : OnTheWay f values picks after
   following = rw began (reports-underway f values picks os)
 
   -- "its state is the one that the accepted reports lead to, its moves are their number, and its seconds the sum of their costs"
@@ -369,6 +374,12 @@ module _ (f values picks : List ℕ) (lent : Follower) (opens-done : opening f v
   -- the record's state is always reached
   pub follows-reached : Reached (problemOf f) (byState picks) (after .state)
   follows-reached = following .reached
+
+  -- the shift goes on: before its end and a million moves, a report of an outcome that the pick has is done
+  pub follows-on
+      : after .mark ≡ 0 → problemOf f .goal (after .state) ≡ false → after .moves < maxMoves → (o : ℕ)
+      → hasOutcome (problemOf f) (byState picks (after .state)) o ≡ true → report f values picks after o .answer ≡ done
+  follows-on = way-goes-on f values picks (accepts .1) after following
 
   -- so a report is refused under 22 only for its outcome
   pub refused-for-outcome

@@ -13,9 +13,8 @@ use Rattle.model.specs.Problem.{Problem, Outcome, ownRow}
 use Rattle.model.specs.Questions.{passes, fails, _then_, ask}
 use Rattle.model.specs.Walk.{In, here, there, Reached, along, successors, next}
 use Rattle.model.specs.Audit.{ownPick}
-use Rattle.model.specs.Following.{leadsOn, leadsTo, moveSecondsOn, moveSeconds, ended, inShift}
-use Rattle.model.specs.Following.{hasOutcome, mayOccur, reportQuestions}
-use Rattle.model.specs.Following.{report}
+use Rattle.model.specs.Following.{leadsOn, leadsTo, moveSecondsOn, moveSeconds, atEnd, inShift, hasOutcome, mayOccur}
+use Rattle.model.specs.Following.{reportQuestions}
 use Rattle.model.specs.declared.Follower.{Follower}
 use Rattle.guarantee.specs.Searches.{and-left, and-right, or-skip, then-first, then-next, ask-yes}
 use Rattle.guarantee.specs.WellFormed.{WellFormed}
@@ -53,19 +52,23 @@ module _ (p : Problem) (picks : ℕ → ℕ) (s o : ℕ) (h : mayOccur p picks s
   picked : (ownPick p s (picks s) && hasOutcome p (picks s) o) ≡ true
   picked = and-right (ltb s (p .states)) _ h
 
+  pub occurs-pick : ownPick p s (picks s) ≡ true
+  occurs-pick = and-left (ownPick p s (picks s)) _ picked
+
+  pub occurs-has : hasOutcome p (picks s) o ≡ true
+  occurs-has = and-right (ownPick p s (picks s)) _ picked
+
   pub occurs-own : (picks s ≡ giveUp → ⊥) → ownRow p s (picks s) ≡ true
-  occurs-own n = or-skip _ _ (and-left (ownPick p s (picks s)) _ picked) (ne-eqb _ _ n)
+  occurs-own n = or-skip _ _ occurs-pick (ne-eqb _ _ n)
 
   pub occurs-outcome : (picks s ≡ giveUp → ⊥) → o < length (p .outcomes (picks s))
   unfolding hasOutcome
   occurs-outcome n =
-      ltb-true _ _
-      (rw (ne-eqb (picks s) giveUp n) at (and-right (ownPick p s (picks s)) (hasOutcome p (picks s) o) picked))
+      ltb-true _ _ (rw (ne-eqb (picks s) giveUp n) at occurs-has)
 
   pub occurs-given : picks s ≡ giveUp → o ≡ 0
   unfolding hasOutcome
-  occurs-given g =
-      eqb-true o 0 (rw (eq-eqb (picks s) giveUp g) at (and-right (ownPick p s (picks s)) (hasOutcome p (picks s) o) picked))
+  occurs-given g = eqb-true o 0 (rw (eq-eqb (picks s) giveUp g) at occurs-has)
 
   pub occurs-row : WellFormed p → (picks s ≡ giveUp → ⊥) → picks s < p .rows
   occurs-row formed n = own-row p formed s (picks s) occurs-state (occurs-own n)
@@ -111,18 +114,18 @@ module _ (p : Problem) (picks : ℕ → ℕ) (s o : ℕ) (h : mayOccur p picks s
 -- A report's questions say yes
 
 module _ (p : Problem) (picks : ℕ → ℕ) (w : Follower) (o : ℕ) (h : reportQuestions p picks w o ≡ passes) where
-  pub asked-open : ended p w ≡ false
+  pub asked-open : atEnd p w ≡ false
   unfolding reportQuestions
-  asked-open = not-true (ended p w) (ask-yes 20 0 _ (then-first _ _ h))
+  asked-open = not-true (atEnd p w) (ask-yes 20 0 _ (then-first _ _ h))
 
   pub asked-shift : inShift w ≡ true
   unfolding reportQuestions
-  asked-shift = ask-yes 21 0 _ (then-first _ _ (then-next (ask 20 0 (not (ended p w))) _ h))
+  asked-shift = ask-yes 21 0 _ (then-first _ _ (then-next (ask 20 0 (not (atEnd p w))) _ h))
 
   pub asked-occurs : mayOccur p picks (w .state) o ≡ true
   unfolding reportQuestions
   asked-occurs =
-      ask-yes 22 0 _ (then-next (ask 21 0 (inShift w)) _ (then-next (ask 20 0 (not (ended p w))) _ h))
+      ask-yes 22 0 _ (then-next (ask 21 0 (inShift w)) _ (then-next (ask 20 0 (not (atEnd p w))) _ h))
 
   pub asked-moves : w .moves < maxMoves
   asked-moves = ltb-true _ _ (and-left (ltb (w .moves) maxMoves) _ asked-shift)
@@ -131,7 +134,7 @@ module _ (p : Problem) (picks : ℕ → ℕ) (w : Follower) (o : ℕ) (h : repor
   asked-seconds = leb-true _ _ (and-right (ltb (w .moves) maxMoves) _ asked-shift)
 
 -- a state of the file at which the record is not at its end is no goal
-pub open-goal : (p : Problem) (w : Follower) → ended p w ≡ false → w .state < p .states → p .goal (w .state) ≡ false
+pub open-goal : (p : Problem) (w : Follower) → atEnd p w ≡ false → w .state < p .states → p .goal (w .state) ≡ false
 open-goal p w h l =
     let goal = or-none (not (eqb (w .mark) 0)) _ h in and-none (ltb (w .state) (p .states)) _ goal (lt-ltb _ _ l)
 

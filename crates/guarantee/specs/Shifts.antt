@@ -17,15 +17,16 @@ use Rattle.model.specs.Sections.{problemOf}
 use Rattle.model.specs.Questions.{passes}
 use Rattle.model.specs.Walk.{Reached, at-start}
 use Rattle.model.specs.Audit.{accepted, refused as audit-refused, ownPick, audit}
-use Rattle.model.specs.Following.{wayTo, waySeconds, ended, inShift, hasOutcome, mayOccur, reportQuestions, refused, Report, atStart}
-use Rattle.model.specs.Following.{opening, moved, report, reports, keepOn, acceptedOf}
+use Rattle.model.specs.Following.{wayTo, waySeconds, atEnd, inShift, hasOutcome, mayOccur, reportQuestions, done, refused, Report}
+use Rattle.model.specs.Following.{atStart, opening, moved, report, reports, keepOn, acceptedOf}
 use Rattle.model.specs.declared.Follower.{Follower}
 use Rattle.guarantee.specs.Searches.{and-both, or-left, or-right}
 use Rattle.guarantee.specs.Walks.{reached-state, reached-marked}
 use Rattle.guarantee.specs.Accepted.{audit-formed, audit-accepts}
 use Rattle.guarantee.specs.Occurs.{and-none, asked-21, asked-22, asked-moves, asked-occurs, asked-open, open-goal}
 use Rattle.guarantee.specs.Occurs.{occurs-reached, occurs-seconds, occurs-state}
-use Rattle.guarantee.specs.Follows.{Reported, stays, moves, reported, ended-refused, opening-stays, refused-audit, report-failed}
+use Rattle.guarantee.specs.Follows.{Reported, stays, moves, reported, ended-refused, opening-stays, refused-audit}
+use Rattle.guarantee.specs.Follows.{report-failed, takes-done}
 
 module _ (f values picks : List ℕ) where
   -- what holds of a record and is kept by every move holds after every list of reports
@@ -83,7 +84,7 @@ module _ (f values picks : List ℕ) where
           clash e = true≢false (cc)
 
   -- at its end the record stays, whatever is reported
-  pub ended-stays : {C : ℕ} → audit f values picks ≡ accepted C → (w : Follower) → ended (problemOf f) w ≡ true → (os : List ℕ)
+  pub ended-stays : {C : ℕ} → audit f values picks ≡ accepted C → (w : Follower) → atEnd (problemOf f) w ≡ true → (os : List ℕ)
       → reports f values picks os w ≡ w
   unfolding reports
   ended-stays a w e [] = refl
@@ -91,16 +92,16 @@ module _ (f values picks : List ℕ) where
 
   -- What holds after every list of reports from opening: the state is reached, each move took at most 400,000 seconds, and no more than a
   -- million were made
-  pub record Underway (w : Follower) : Type 0 where
+  pub record OnTheWay (w : Follower) : Type 0 where
     pub reached : Reached (problemOf f) (byState picks) (w .state)
     pub seconds-low : w .seconds ≤ maxPenalty * w .moves
     pub moves-high : w .moves ≤ maxMoves
 
-  underway-start : Underway (atStart (problemOf f))
+  underway-start : OnTheWay (atStart (problemOf f))
   underway-start = record { reached = at-start; seconds-low = omega arith; moves-high = omega arith }
 
   underway-moved : (w : Follower) (o C : ℕ) → audit f values picks ≡ accepted C
-      → reportQuestions (problemOf f) (byState picks) w o ≡ passes → Underway w → Underway (moved (problemOf f) (byState picks) w o)
+      → reportQuestions (problemOf f) (byState picks) w o ≡ passes → OnTheWay w → OnTheWay (moved (problemOf f) (byState picks) w o)
   unfolding moved
   underway-moved w o C a v under =
       let p = problemOf f in
@@ -118,42 +119,68 @@ module _ (f values picks : List ℕ) where
         moves-high = omega (arith, asked-moves p (byState picks) w o v);
       }
 
-  pub reports-underway : (os : List ℕ) → Underway (reports f values picks os (atStart (problemOf f)))
-  reports-underway os = reports-keep Underway underway-moved os (atStart (problemOf f)) underway-start
+  pub reports-underway : (os : List ℕ) → OnTheWay (reports f values picks os (atStart (problemOf f)))
+  reports-underway os = reports-keep OnTheWay underway-moved os (atStart (problemOf f)) underway-start
 
   -- a goal that the record comes to is a state of the file
-  pub goal-ended : {C : ℕ} → audit f values picks ≡ accepted C → (w : Follower) → Underway w → problemOf f .goal (w .state) ≡ true
-      → ended (problemOf f) w ≡ true
+  pub goal-ended : {C : ℕ} → audit f values picks ≡ accepted C → (w : Follower) → OnTheWay w → problemOf f .goal (w .state) ≡ true
+      → atEnd (problemOf f) w ≡ true
   goal-ended {C} a w under goal =
       let state = reached-state (problemOf f) (audit-formed f values picks C a) (byState picks) (w .state) (under .reached) in
       or-right (not (eqb (w .mark) 0)) (and-both (lt-ltb (w .state) (problemOf f .states) state) goal)
 
-  -- from opening, 22 comes for the outcome alone: the state is in the file, and its pick is its own
-  pub outcome-missing : {C : ℕ} → audit f values picks ≡ accepted C → (w : Follower) → Underway w → (o : ℕ) {i : ℕ} {z : ℤ}
+  -- the state is in the file, and where it is no goal its pick is its own
+  way-state : {C : ℕ} → audit f values picks ≡ accepted C → (w : Follower) → OnTheWay w → w .state < problemOf f .states
+  way-state {C} a w under = reached-state (problemOf f) (audit-formed f values picks C a) (byState picks) (w .state) (under .reached)
+
+  way-own : {C : ℕ} → audit f values picks ≡ accepted C → (w : Follower) → OnTheWay w → problemOf f .goal (w .state) ≡ false
+      → ownPick (problemOf f) (w .state) (byState picks (w .state)) ≡ true
+  way-own {C} a w under goal =
+      let p = problemOf f in
+      let s = w .state in
+      let marked = ap (λ m. eqb m 0) (reached-marked p (audit-formed f values picks C a) (byState picks) s (under .reached)) in
+      ⊎-elim (λ g. or-left (ownRow p s (byState picks s)) (eq-eqb (byState picks s) giveUp g))
+      (λ r. or-right (eqb (byState picks s) giveUp) r)
+      (audit-accepts f values picks C a .pick-fits s (way-state a w under) goal marked)
+
+  -- so 22 comes for the outcome alone
+  pub outcome-missing : {C : ℕ} → audit f values picks ≡ accepted C → (w : Follower) → OnTheWay w → (o : ℕ) {i : ℕ} {z : ℤ}
       → report f values picks w o .answer ≡ refused 22 i z
       → (w .state < problemOf f .states) × (ownPick (problemOf f) (w .state) (byState picks (w .state)) ≡ true)
       × (hasOutcome (problemOf f) (byState picks (w .state)) o ≡ false)
   unfolding reportQuestions
-  outcome-missing {C} a w under o h =
+  outcome-missing a w under o h =
       let p = problemOf f in
-      let s = w .state in
-      let said = asked-22 (not (ended p w)) (inShift w) (mayOccur p (byState picks) s o) (report-failed f values picks a w o h) in
-      let formed = audit-formed f values picks C a in
-      let state = reached-state p formed (byState picks) s (under .reached) in
-      let goal = open-goal p w (not-true (ended p w) (said .0)) state in
-      let marked = ap (λ m. eqb m 0) (reached-marked p formed (byState picks) s (under .reached)) in
-      let own =
-      ⊎-elim (λ g. or-left (ownRow p s (byState picks s)) (eq-eqb (byState picks s) giveUp g))
-      (λ r. or-right (eqb (byState picks s) giveUp) r) (audit-accepts f values picks C a .pick-fits s state goal marked) in
-      (state, own, and-none _ _ (and-none _ _ (said .1) (lt-ltb s (p .states) state)) own)
+      let said = asked-22 (not (atEnd p w)) (inShift w) (mayOccur p (byState picks) (w .state) o)
+      (report-failed f values picks a w o h) in
+      let state = way-state a w under in
+      let own = way-own a w under (open-goal p w (not-true (atEnd p w) (said .0)) state) in
+      (state, own, and-none _ _ (and-none _ _ (said .1) (lt-ltb (w .state) (p .states) state)) own)
+
+  -- and an outcome that is there is taken, before the end and a million moves
+  pub way-goes-on : {C : ℕ} → audit f values picks ≡ accepted C → (w : Follower) → OnTheWay w → w .mark ≡ 0
+      → problemOf f .goal (w .state) ≡ false → w .moves < maxMoves → (o : ℕ)
+      → hasOutcome (problemOf f) (byState picks (w .state)) o ≡ true → report f values picks w o .answer ≡ done
+  way-goes-on {C} a w under mark goal few o has =
+      takes-done f values picks w o
+      (record {
+        accepts = (C, a);
+        mark-clear = mark;
+        state-there = way-state a w under;
+        no-goal = goal;
+        moves-few = few;
+        seconds-few = omega (arith, few, under .seconds-low);
+        pick-own = way-own a w under goal;
+        outcome-there = has;
+      })
 
   -- from opening, 21 comes at a million moves, and never for the seconds
-  pub moves-spent : {C : ℕ} → audit f values picks ≡ accepted C → (w : Follower) → Underway w → (o : ℕ) {i : ℕ} {z : ℤ}
+  pub moves-spent : {C : ℕ} → audit f values picks ≡ accepted C → (w : Follower) → OnTheWay w → (o : ℕ) {i : ℕ} {z : ℤ}
       → report f values picks w o .answer ≡ refused 21 i z → w .moves ≡ maxMoves
   unfolding reportQuestions
   moves-spent a w under o h =
       let p = problemOf f in
-      let said = asked-21 (not (ended p w)) (inShift w) (mayOccur p (byState picks) (w .state) o) (report-failed f values picks a w o h) in
+      let said = asked-21 (not (atEnd p w)) (inShift w) (mayOccur p (byState picks) (w .state) o) (report-failed f values picks a w o h) in
       step (ltb (w .moves) maxMoves) refl said
     where
       step : (b : Bool) → ltb (w .moves) maxMoves ≡ b → inShift w ≡ false → w .moves ≡ maxMoves

@@ -30,6 +30,12 @@ abbrev pub auditCarries : AuditAnswer → Carried
 auditCarries (Accepted least) = ended Said.accepted 0 0 least
 auditCarries (Audit-refused q i excess) = refusal q i excess
 
+-- Of opening and reports: nothing where it is done, or the number of the question that said no, its place and its excess. The record
+-- stands beside the answer
+abbrev pub followedOf : FollowAnswer → Followed
+followedOf Done = done
+followedOf (Report-refused q i excess) = report-refused q i excess
+
 -- what the answers of the definitions carry
 
 abbrev pub verdictCarries : Verdict → Carried
@@ -59,8 +65,3 @@ answerOf (Turned-down q i) = refused q i
 abbrev pub auditedOf : AuditAnswer → Audited
 auditedOf (Accepted least) = accepted least
 auditedOf (Audit-refused q i excess) = audit-refused q i excess
-
--- of opening and reports: nothing, or the number of the question that said no, its place and its excess. The record is beside it
-abbrev pub followedOf : FollowAnswer → Followed
-followedOf Done = done
-followedOf (Report-refused q i excess) = report-refused q i excess

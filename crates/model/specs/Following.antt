@@ -46,8 +46,8 @@ waySeconds p picks s (o ∷ os) = moveSeconds p picks s + waySeconds p picks (le
 -- Questions
 
 -- "20 when the mark is set or the record's state is a goal": a number that is no state is no goal
-abbrev pub ended : Problem → Follower → Bool
-ended p w = not (eqb (w .mark) 0) || (ltb (w .state) (p .states) && p .goal (w .state))
+abbrev pub atEnd : Problem → Follower → Bool
+atEnd p w = not (eqb (w .mark) 0) || (ltb (w .state) (p .states) && p .goal (w .state))
 
 -- "21 at a million moves or more or above 400,000,000,000 seconds"
 abbrev pub inShift : Follower → Bool
@@ -68,7 +68,7 @@ mayOccur p picks s o = ltb s (p .states) && (ownPick p s (picks s) && hasOutcome
 -- "in that order, place 0"
 unfoldable pub reportQuestions : Problem → (ℕ → ℕ) → Follower → ℕ → Verdict
 reportQuestions p picks w o =
-    ask 20 0 (not (ended p w)) then ask 21 0 (inShift w) then ask 22 0 (mayOccur p picks (w .state) o)
+    ask 20 0 (not (atEnd p w)) then ask 21 0 (inShift w) then ask 22 0 (mayOccur p picks (w .state) o)
 
 -- Opening and reports
 

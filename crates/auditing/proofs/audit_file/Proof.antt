@@ -21,7 +21,9 @@ enum-known-answer : tie.Need-enum-known-answer
 enum-known-answer c = search needs
 
 returns : tie.Need-returns
-returns c = file-refused refl (audit-stop-file _ _ _ (sym (c .before .before .before .questions .ensures .verdict) ∙ ap verdictOf (c .before .answer .given .1)))
+returns c =
+    file-refused (c .before .before .before .questions .ensures .left) refl
+    (audit-stop-file _ _ _ (sym (c .before .before .before .questions .ensures .verdict) ∙ ap verdictOf (c .before .answer .given .1)))
 
 enum-told : tie.Need-enum-told
 enum-told c = search needs
@@ -34,7 +36,7 @@ refused-requires c κs = search needs
 
 returns-2 : tie.Need-returns-2
 returns-2 c =
-    file-refused (c .refused .ensures)
+    file-refused (c .before .before .before .before .before .questions .ensures .left) (c .refused .ensures)
     (audit-stop-values _ _ _ (passed (c .before .before .before)) (c .before .before .layout-of .ensures .states-are) (c .before .if1 .taken))
 
 refused-requires-2 : tie.Need-refused-requires-2
@@ -42,7 +44,7 @@ refused-requires-2 c κs = search needs
 
 returns-3 : tie.Need-returns-3
 returns-3 c =
-    file-refused (c .refused2 .ensures)
+    file-refused (c .before .before .before .before .before .before .questions .ensures .left) (c .refused2 .ensures)
     (audit-stop-picks _ _ _ (passed (c .before .before .before .before)) (c .before .before .before .layout-of .ensures .states-are) (c .before .before .if1 .left) (c .before .if2 .taken))
 
 table-questions-requires : tie.Need-table-questions-requires
@@ -52,7 +54,7 @@ table-questions-requires c κs =
 
 returns-4 : tie.Need-returns-4
 returns-4 c =
-    file-asked
+    file-asked (c .before .before .before .before .before .before .before .questions .ensures .left)
     (tables-asked _ _ _ (passed (c .before .before .before .before .before)) (c .before .before .before .before .layout-of .ensures .states-are)
     (c .before .before .before .before .before .before .before .questions .ensures .ready (ap verdictOf (c .before .before .before .before .before .enum-told .given .1))) (c .before .before .before .if1 .left) (c .before .before .if2 .left))
     (audit-tables _ _ _ (passed (c .before .before .before .before .before)) (c .before .before .before .before .layout-of .ensures .states-are) (c .before .before .before .if1 .left) (c .before .before .if2 .left)
