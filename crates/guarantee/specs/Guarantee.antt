@@ -381,7 +381,7 @@ module _ (f values picks : List ℕ) (lent : Follower) (opens-done : opening f v
       → hasOutcome (problemOf f) (byState picks (after .state)) o ≡ true → report f values picks after o .answer ≡ done
   follows-on = way-goes-on f values picks (accepts .1) after following
 
-  -- so a report is refused under 22 only for its outcome
+  -- since its state is reached, a report is refused under 22 only for its outcome
   pub refused-for-outcome
       : (o i : ℕ) (excess : ℤ) → report f values picks after o .answer ≡ report-refused 22 i excess
       → (after .state < problemOf f .states) × (ownPick (problemOf f) (after .state) (byState picks (after .state)) ≡ true)
