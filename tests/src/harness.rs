@@ -37,9 +37,14 @@ impl Tally {
 
     /// Counts an answer that is no refusal, or anything else worth a number.
     pub fn count(&mut self, name: &'static str) {
+        self.count_all(name, 1);
+    }
+
+    /// Counts so many of them.
+    pub fn count_all(&mut self, name: &'static str, number: u64) {
         match self.named.iter_mut().find(|(known, _)| *known == name) {
-            Some((_, count)) => *count += 1,
-            None => self.named.push((name, 1)),
+            Some((_, count)) => *count += number,
+            None => self.named.push((name, number)),
         }
     }
 

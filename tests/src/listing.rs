@@ -15,20 +15,25 @@ pub struct Planned {
 
 /// The run of `plan` on a file.
 pub fn planned(file: &[u8]) -> Planned {
+    planned_within(file, PLAN_ROUNDS)
+}
+
+/// The run of `plan` on a file, were it to have so many rounds.
+pub fn planned_within(file: &[u8], rounds: u64) -> Planned {
     let refused = |refusal| Planned { lines: refusal_line(refusal), tables: None };
     let problem = match Problem::read(file) {
         Ok(problem) => problem,
         Err(refusal) => return refused(refusal),
     };
     let mut tables = OwnedTables::new(&problem);
-    let head = match solve(&problem, PLAN_ROUNDS, tables.lend()).answer {
+    let head = match solve(&problem, rounds, tables.lend()).answer {
         Answer::Solved { rounds, evaluations, least_cost } => {
             format!("solved {rounds} {evaluations} {least_cost}\n")
         }
         Answer::Spent { rounds, evaluations } => format!("spent {rounds} {evaluations}\n"),
         Answer::Refused(refusal) => return refused(refusal),
     };
-    Planned { lines: head + &state_lines(&tables), tables: Some(tables) }
+    Planned { lines: head + &state_lines(&problem, &tables), tables: Some(tables) }
 }
 
 /// Whether the run of `plan` on a file is refused or ends within so many rounds.
@@ -43,6 +48,11 @@ pub fn ends_within(file: &[u8], rounds: u64) -> bool {
 /// All that `plan` writes on standard output.
 pub fn plan_lines(file: &[u8]) -> String {
     planned(file).lines
+}
+
+/// How many state lines of `plan` end with a remainder above 0.
+pub fn remainders_above_0(lines: &str) -> u64 {
+    lines.lines().skip(1).filter(|line| !line.ends_with(" 0")).count() as u64
 }
 
 /// The line of `audit`: `accepted` C, or `refused` number place excess.
@@ -60,16 +70,21 @@ fn refusal_line(refusal: Refusal) -> String {
     format!("refused {} {}\n", refusal.question, refusal.place)
 }
 
-/// "For each state of the last walk, by state number: state, value, row or `give`."
-fn state_lines(tables: &OwnedTables) -> String {
+/// "For each state of the last walk, by state number: state, value, row or `give`." And since E3:
+/// "Each state line of `plan` ends with the remainder of its pick under the final values, 0 for
+/// `give`."
+fn state_lines(problem: &Problem, tables: &OwnedTables) -> String {
     let mut walked: Vec<u16> = tables.walk.iter().copied().filter(|&s| s != GIVE_UP).collect();
     walked.sort_unstable();
     let mut lines = String::new();
     for state in walked.into_iter().map(usize::from) {
         let value = tables.values[state];
         let line = match tables.picks[state] {
-            GIVE_UP => writeln!(lines, "{state} {value} give"),
-            row => writeln!(lines, "{state} {value} {row}"),
+            GIVE_UP => writeln!(lines, "{state} {value} give 0"),
+            row => {
+                let remainder = problem.row_remainder(usize::from(row), &tables.values);
+                writeln!(lines, "{state} {value} {row} {remainder}")
+            }
         };
         line.expect("a string takes every line");
     }

@@ -357,6 +357,25 @@ pub fn endless() -> Draft {
     draft
 }
 
+/// A file whose run is still going after 1,000,000 rounds and whose walk lists a dozen states: a loop
+/// as above, left through one of ten states, each with a cost and a chance of its own.
+pub fn endless_fan(random: &mut Random) -> Draft {
+    let goal = 12;
+    let mut draft = Draft::new(0, 1, MAX_PENALTY);
+    draft.add_state();
+    draft.add_row(KIND_SECONDS, 1, &[(0, 999), (1, 1)]);
+    draft.add_state();
+    let fan: Vec<(u16, u16)> = (2..goal).map(|state| (state, 10)).collect();
+    draft.add_row(KIND_SECONDS, 1, &[&[(0, 900)], &fan[..]].concat());
+    for _ in 2..goal {
+        let (cost, on) = (random.between(1, 600) as u16, random.between(40, 60) as u16);
+        draft.add_state();
+        draft.add_row(KIND_SECONDS, cost, &[(0, WEIGHT_TOTAL as u16 - on), (goal, on)]);
+    }
+    draft.add_goal();
+    draft
+}
+
 #[cfg(test)]
 mod tests {
     use super::*;

@@ -208,6 +208,17 @@ impl Problem {
         row.cost + average(&self.outcomes[row.outcomes()], values)
     }
 
+    /// E3: "The row value shall come with its remainder, 0 to 999, wherever it is computed." What
+    /// rounding down takes away from it, in thousandths of a tick. No round needs it, so it has a
+    /// sum of its own.
+    pub fn row_remainder(&self, row: usize, values: &[u32]) -> u32 {
+        let weighted = |outcome: &Outcome| {
+            u64::from(outcome.weight) * u64::from(values[usize::from(outcome.successor)])
+        };
+        let sum: u64 = self.outcomes[self.rows[row].outcomes()].iter().map(weighted).sum();
+        (sum % u64::from(WEIGHT_TOTAL)) as u32
+    }
+
     /// "Looking up a state gives back its rows as a stretch of the caller's bytes." None where the
     /// number is not a state.
     pub fn rows_of(&self, state: u64) -> Option<Range<usize>> {

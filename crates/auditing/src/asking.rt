@@ -104,7 +104,8 @@ pub fn table_questions(
     let s = u.state;
     let r = u.row;
     if s < n {
-        return refused(17, r, excess(values[s], row_value(file, index, values, r)));
+        let q = row_value(file, index, values, r);
+        return refused(17, r, excess(values[s], q.value));
     }
     pick_questions(file, index, values, picks, n)
 }

@@ -119,7 +119,8 @@ pub fn pick_value(file: &[u8], index: &[u32; INDEX], values: &[u32], pick: u16, 
     if pick == GIVE_UP {
         return limit as u64;
     }
-    row_value(file, index, values, pick as usize)
+    let q = row_value(file, index, values, pick as usize);
+    q.value
 }
 
 // Whether the value of the pick at s is at most V + e - 1, where s is reached and no goal.

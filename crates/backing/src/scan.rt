@@ -109,10 +109,10 @@ fn consider(
         return a;
     }
     let q = row_value(file, index, values, r);
-    if VALUE_BOUND <= q {
+    if VALUE_BOUND <= q.value {
         return too_large(r, a);
     }
-    let value = q as u32;
+    let value = q.value as u32;
     note(log, a.count, r, old);
     remembered[r] = value;
     evaluated(value, r, a)

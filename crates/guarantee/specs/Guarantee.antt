@@ -1,6 +1,6 @@
 -- What is promised of the rules of documents 01 and 02: each sentence is quoted over the theorem that it is, and a proof is a line
 -- that cites. Nothing has to be believed but the model; the statements add `Met`, `after` and `taken` below, and `Accepts`, `Takes`,
--- `Allowed`, `Beyond` and `machineOf` of other files.
+-- `Allowed`, `Beyond`, `HasLine`, `PickLine` and `machineOf` of other files.
 use mathlib.Core.Path.{_≡_, _∙_, ap}
 use Prim.Native.Nat.{ℕ, _+_, _-_, _*_, _≤_, _<_}
 use native.Mathlib.Omega.{arith}
@@ -9,9 +9,9 @@ use mathlib.Core.Logic.{_⊎_, _↔_}
 use mathlib.Core.List.{List, [], _∷_}
 use lib.IntN.{ℤ, pos}
 use lib.ListN.{getD, length}
-use Rattle.model.specs.Limits.{maxBudget, giveUp, noPick, maxMoves}
+use Rattle.model.specs.Limits.{maxBudget, giveUp, noPick, maxMoves, weightTotal}
 use Rattle.model.specs.Problem.{Problem, giveUpCost, ownRow}
-use Rattle.model.specs.Value.{byState, rowValue}
+use Rattle.model.specs.Value.{byState, weightedSum, rowTicks, rowValue, rowRemainder}
 use Rattle.model.specs.Sections.{problemOf}
 use Rattle.model.specs.Questions.{passes, fails, _then_, fileQuestions}
 use Rattle.model.specs.Walk.{In, walk, Reached, successors, pickCost, leastCost}
@@ -37,6 +37,8 @@ use Rattle.guarantee.specs.Hollow.{table-too-dear}
 use Rattle.guarantee.specs.Underway.{Underway, turn-open, underway-start, underway-walked, underway-backup, scan-any-memory}
 use Rattle.guarantee.specs.Solutions.{lent-sound, solution-run, solution-ends, spent-budget, refused-by}
 use Rattle.guarantee.specs.Solutions.{never-fourteen, answer-accepted, answer-gives-up}
+use Rattle.guarantee.specs.Values.{rowValue-exact, rowRemainder-low}
+use Rattle.guarantee.specs.Listings.{HasLine, PickLine, lines-pick}
 use Rattle.guarantee.specs.Follows.{opened, opens, audit-first, opening-stays, report-stays, ended-refused, given-up-ended}
 use Rattle.guarantee.specs.Follows.{given-up-left, row-left, Takes, done-takes, takes-done}
 use Rattle.guarantee.specs.Shifts.{Came, nothing-follows, reports-came, OnTheWay, reports-underway, goal-ended}
@@ -130,6 +132,22 @@ pub plan-gives-up-when-cheaper
     → byState (solution f budget t .tables .picks) s ≡ giveUp → (r : ℕ) → ownRow (problemOf f) s r ≡ true
     → giveUpCost (problemOf f) < rowValue (problemOf f) (byState (solution f budget t .tables .values)) r
 plan-gives-up-when-cheaper = answer-gives-up
+
+-- Request E3: "The row value shall come with its remainder, 0 to 999": W × (value − 1000 × c) and the remainder are together the exact
+-- sum, and the remainder is below W
+module _ (p : Problem) (v : ℕ → ℕ) (r : ℕ) where
+  pub value-with-remainder : weightTotal * (rowValue p v r - rowTicks p r) + rowRemainder p v r ≡ weightedSum (p .outcomes r) v
+  value-with-remainder = rowValue-exact p r v
+
+  pub remainder-low : rowRemainder p v r < weightTotal
+  remainder-low = rowRemainder-low p r v
+
+-- "Each state line of `plan` ends with the remainder of its pick under the final values, 0 for `give`." Solved or spent, a state with a
+-- line (`HasLine`) gives up, and its remainder is 0, or takes one of its own rows, and its remainder is that row's (`PickLine`)
+pub lines-name-picks
+    : (f : List ℕ) (budget : ℕ) (t : Tables) (s : ℕ) → HasLine (problemOf f) (solution f budget t) s
+    → PickLine (problemOf f) (byState (solution f budget t .tables .values)) s (getD (solution f budget t .tables .picks) s 0)
+lines-name-picks = lines-pick
 
 -- Demand 1: "the first failed question of document 01 with its place, lent tables unchanged (save at 14)". The question is one of 1 to 13
 pub refusal

@@ -7,13 +7,14 @@ use mathlib.Core.Bool.{true}
 use mathlib.Core.List.{List, [], _∷_}
 use mathlib.Core.Logic.{_⊎_}
 use lib.IntN.{ℤ, pos}
-use lib.ListN.{replicate}
+use lib.ListN.{getD, replicate}
 use Rattle.model.specs.Bytes.{u16At, u32At}
 use borrow.Author.Tests.{leb-true, le-leb}
 use Rattle.model.specs.Limits.{maxBudget, planRounds, giveUp}
 use Rattle.model.specs.Cases.{fileP, penaltyP, tied, valuesP, picksP, gives, valuesGives, lent, planned, at}
 use Rattle.model.specs.Cases.{cases-hold, others-hold, requested-hold}
 use Rattle.model.specs.Problem.{Problem, giveUpCost, ownRow}
+use Rattle.model.specs.Lines.{runStates, listed}
 use Rattle.model.specs.Search.{sumTo}
 use Rattle.model.specs.Value.{byState, rowValue, weightedSum}
 use Rattle.model.specs.Sections.{statesAt, rowsAt, outcomesAt, outcomesFrom, secondsOn, problemOf}
@@ -31,9 +32,10 @@ use Rattle.guarantee.specs.Searches.{yes-ask}
 use Rattle.guarantee.specs.Accepted.{audit-accepts}
 use Rattle.guarantee.specs.Closeness.{audit-close}
 use Rattle.guarantee.specs.Solutions.{solution-refused}
+use Rattle.guarantee.specs.Listings.{PickLine}
 use Rattle.guarantee.specs.Guarantee.{closeness-lower, ending, acceptance, Met, starts, walks, built-on-bellman}
 use Rattle.guarantee.specs.Guarantee.{runs-the-rounds, rounds-fit, giving-up-refused, least-at-most}
-use Rattle.guarantee.specs.Guarantee.{after, goal-ends, giving-up-ends}
+use Rattle.guarantee.specs.Guarantee.{after, goal-ends, giving-up-ends, lines-name-picks}
 use Rattle.guarantee.specs.Guarantee.{backs-up, plan-gives-up-when-cheaper, row-beats-giving-up, earlier-pick-wins}
 
 abbrev pub problemP : Problem
@@ -131,6 +133,13 @@ p-ends = rw p-rounds at (ending fileP 30000003 (lent 3) p-passes (p-lent 3000000
 -- with the budget of `plan`, which is less, P is solved too, and what is left is accepted
 pub p-acceptance : audit fileP (planned fileP 3 .tables .values) (planned fileP 3 .tables .picks) ≡ accepted 100000
 p-acceptance = acceptance fileP planRounds (lent 3) 3 5 100000 p-solved
+
+-- E3: the start of P has a line
+pub p-line : PickLine problemP (byState (planned fileP 3 .tables .values)) 0 (getD (planned fileP 3 .tables .picks) 0 0)
+unfolding runStates listed problemOf statesAt u16At
+p-line =
+    lines-name-picks fileP planRounds (lent 3) 0
+    (rw p-solved (omega arith), rw (p-solved, others-hold .1 .1 .1 .1 .0) refl)
 
 -- P's first round meets a backup of the start, the only state of the first walk
 abbrev pub firstP : Machine

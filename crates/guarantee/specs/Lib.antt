@@ -28,6 +28,7 @@ pub mod Undercutting
 pub mod Numbers
 pub mod Allowances
 pub mod Solutions
+pub mod Listings
 pub mod Hollow
 pub mod Beyond
 pub mod Underway

@@ -14,7 +14,7 @@ use lib.Seq.{getD-take, take-all, length-take-le}
 use borrow.Author.Tests.{le-leb, ne-eqb}
 use Rattle.model.specs.Bytes.{u16At}
 use Rattle.model.specs.Limits.{settingCount, maxStates, maxRows, maxOutcomes}
-use Rattle.model.specs.Lines.{planText, runStates}
+use Rattle.model.specs.Lines.{planText, stateLines, runStates}
 use Rattle.model.specs.Problem.{Problem}
 use Rattle.model.specs.Sections.{problemOf, sectionEnd, statesAt, rowsAt, outcomesAt, fileEnd}
 use Rattle.model.specs.TableFiles.{entries16, entries32}
@@ -126,14 +126,14 @@ module _ (N : ℕ) (f : List ℕ) (h : longestFile < N) where
   -- and what `plan` prints of it
   pub plan-front
       : (budget : ℕ) (t : Tables)
-      → planText (problemOf (take N f) .states) (solution (take N f) budget t) ≡ planText (problemOf f .states) (solution f budget t)
-  unfolding planText runStates solution solutionOn fileQuestions
+      → planText (problemOf (take N f)) (solution (take N f) budget t) ≡ planText (problemOf f) (solution f budget t)
+  unfolding planText stateLines runStates solution solutionOn fileQuestions
   plan-front budget t = go (front N f h)
     where
       go
           : Front N f
-          → planText (problemOf (take N f) .states) (solution (take N f) budget t) ≡ planText (problemOf f .states) (solution f budget t)
-      go (whole e) = ap (λ g. planText (problemOf g .states) (solution g budget t)) e
+          → planText (problemOf (take N f)) (solution (take N f) budget t) ≡ planText (problemOf f) (solution f budget t)
+      go (whole e) = ap (λ g. planText (problemOf g) (solution g budget t)) e
       go (cut q i e e′) = rw (e, e′) refl
 
   -- and its audit

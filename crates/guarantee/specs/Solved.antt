@@ -5,7 +5,7 @@ use Prim.Native.Nat.{ℕ, _+_, _≤_, _<_}
 use native.Mathlib.Omega.{arith}
 use mathlib.Core.Bool.{true, false, true≢false}
 use mathlib.Core.List.{List, [], _∷_}
-use mathlib.Core.Logic.{_⊎_, inl, inr, ⊎-elim}
+use mathlib.Core.Logic.{⊎-elim}
 use lib.Dec.{eqb}
 use lib.ListN.{getD, length}
 use borrow.Author.Tests.{eqb-false, eq-eqb, ne-eqb}
@@ -21,7 +21,7 @@ use Rattle.guarantee.specs.WellFormed.{WellFormed, well-formed}
 use Rattle.guarantee.specs.Graphs.{in-cons, in-nil}
 use Rattle.guarantee.specs.Walks.{marked-reached, reached-listed}
 use Rattle.guarantee.specs.Rows.{row-no-mark}
-use Rattle.guarantee.specs.Choosing.{Chosen, choice, Landed, at-giving-up, at-row, choice-landed, gives-up-dear}
+use Rattle.guarantee.specs.Choosing.{Chosen, choice, Landed, at-giving-up, at-row, IsPick, landed-pick, choice-landed, gives-up-dear}
 use Rattle.guarantee.specs.Sound.{Sound, start-sound, scan-law, backup-sound}
 use Rattle.guarantee.specs.Backups.{Open, Backed, rose, turned, rested}
 use Rattle.guarantee.specs.Backups.{backed, walk-opens, walked-sound, round-sound, round-list, run-quiet}
@@ -86,9 +86,8 @@ module _ (p : Problem) (formed : WellFormed p) (e : ℕ) where
 
 -- where a choice landed on the pick, the pick is an own row or giving up, and its value is the choice's best
 module _ (p : Problem) (v picks : ℕ → ℕ) (s : ℕ) (c : Chosen) where
-  landed-fits : Landed p v s c → c .pick ≡ picks s → (picks s ≡ giveUp) ⊎ (ownRow p s (picks s) ≡ true)
-  landed-fits (at-giving-up q b) same = inl (sym same ∙ q)
-  landed-fits (at-row own b less) same = inr (rw (← same) own)
+  landed-fits : Landed p v s c → c .pick ≡ picks s → IsPick p s (picks s)
+  landed-fits landed same = rw (← same) (landed-pick landed)
 
   landed-value : WellFormed p → s < p .states → Landed p v s c → c .pick ≡ picks s → pickValue p v picks s ≡ c .best
   unfolding pickValue

@@ -1,13 +1,15 @@
 -- Laws of the row value: how far rounding down takes it, that it rises with the table, its bound, and that it looks at successors only.
 -- Averages are treated over any weight total above 0 and any list of outcomes; the model's total is put in once, in `rowValue-average`.
 use mathlib.Core.Path.{_≡_, refl}
-use Prim.Native.Nat.{ℕ, _+_, _*_, _/_, _≤_, _<_}
+use Prim.Native.Nat.{ℕ, _+_, _-_, _*_, _/_, _%_, _≤_, _<_}
 use mathlib.Core.List.{List, [], _∷_}
 use native.Mathlib.Nat.{mul-le-mul-left, mul-div-le, lt-mul-div-succ, le-div-iff-mul-le, div-le-of-le-mul, div-mul-le-self, le-trans}
+use native.Mathlib.Nat.{div-add-mod, mod-lt}
 use native.Mathlib.Omega.{arith}
-use Rattle.model.specs.Limits.{weightTotal, valueBound}
+use borrow.Author.Tests.{ne-eqb}
+use Rattle.model.specs.Limits.{weightTotal, valueBound, giveUp}
 use Rattle.model.specs.Problem.{Problem, Outcome, giveUpCost}
-use Rattle.model.specs.Value.{weightedSum, totalWeight, rowTicks, rowValue}
+use Rattle.model.specs.Value.{weightedSum, totalWeight, rowTicks, rowValue, rowRemainder, pickRemainder}
 use Rattle.model.specs.Walk.{In, here, there}
 use Rattle.guarantee.specs.WellFormed.{WellFormed}
 
@@ -51,6 +53,12 @@ module _ (W : ℕ) (pos : 0 < W) (ticks : ℕ) (os : List Outcome) where
   pub average-high : (v : ℕ → ℕ) → W * ticks + weightedSum os v < W * (average W ticks os v + 1)
   average-high v = omega (arith, lt-mul-div-succ (weightedSum os v) pos)
 
+  -- what the average takes of the sum, W times, and what the division leaves are together the sum
+  pub average-exact : (v : ℕ → ℕ) → W * (average W ticks os v - ticks) + weightedSum os v % W ≡ weightedSum os v
+  average-exact v =
+      let mean : average W ticks os v - ticks ≡ weightedSum os v / W = omega arith in
+      rw mean (div-add-mod (weightedSum os v) W)
+
   pub average-rises : (v w : ℕ → ℕ) → BelowAt os v w → average W ticks os v ≤ average W ticks os w
   average-rises v w below = omega (arith, quotient-rises W _ _ pos (weightedSum-rises os v w below))
 
@@ -77,6 +85,16 @@ module _ (p : Problem) (r : ℕ) where
   pub rowValue-high : (v : ℕ → ℕ) → weightTotal * rowTicks p r + weightedSum (p .outcomes r) v < weightTotal * (rowValue p v r + 1)
   rowValue-high v = rw rowValue-average (average-high weightTotal total-above-zero (rowTicks p r) (p .outcomes r) v)
 
+  -- E3: value and remainder together are the exact sum, and the remainder is less than the total
+  pub rowValue-exact
+      : (v : ℕ → ℕ) → weightTotal * (rowValue p v r - rowTicks p r) + rowRemainder p v r ≡ weightedSum (p .outcomes r) v
+  unfolding rowRemainder
+  rowValue-exact v = rw rowValue-average (average-exact weightTotal total-above-zero (rowTicks p r) (p .outcomes r) v)
+
+  pub rowRemainder-low : (v : ℕ → ℕ) → rowRemainder p v r < weightTotal
+  unfolding rowRemainder
+  rowRemainder-low v = mod-lt (weightedSum (p .outcomes r) v) total-above-zero
+
   pub rowValue-rises : (v w : ℕ → ℕ) → BelowAt (p .outcomes r) v w → rowValue p v r ≤ rowValue p w r
   rowValue-rises v w below =
       rw (rowValue-average p v r, rowValue-average p w r)
@@ -91,6 +109,16 @@ module _ (p : Problem) (r : ℕ) where
       → ((o : Outcome) → In o (p .outcomes r) → v (o .successor) ≤ G) → rowValue p v r ≤ rowTicks p r + G
   rowValue-bound v G total high =
       rw rowValue-average (average-bound weightTotal total-above-zero (rowTicks p r) (p .outcomes r) v G total high)
+
+-- the remainder of a pick is that of its row, and 0 for giving up
+module _ (p : Problem) (v : ℕ → ℕ) where
+  pub pickRemainder-give : pickRemainder p v giveUp ≡ 0
+  unfolding pickRemainder
+  pickRemainder-give = refl
+
+  pub pickRemainder-row : (r : ℕ) → (r ≡ giveUp → ⊥) → pickRemainder p v r ≡ rowRemainder p v r
+  unfolding pickRemainder
+  pickRemainder-row r other = rw (ne-eqb r giveUp other) refl
 
 -- on whole tables
 pub rowValue-rises-all : (p : Problem) (v w : ℕ → ℕ) → ((s : ℕ) → v s ≤ w s) → (r : ℕ) → rowValue p v r ≤ rowValue p w r

@@ -10,7 +10,7 @@ use Rattle.model.specs.Bytes.{u16At, u32At}
 use Rattle.model.specs.Limits.{planRounds}
 use Rattle.model.specs.Problem.{Problem, Outcome}
 use Rattle.model.specs.Search.{first, sumTo}
-use Rattle.model.specs.Value.{byState, weightedSum, totalWeight, rowValue}
+use Rattle.model.specs.Value.{byState, weightedSum, totalWeight, rowValue, rowRemainder, pickRemainder}
 use Rattle.model.specs.Sections.{statesAt, rowsAt, outcomesAt, fileEnd, rateSeconds, secondsOn, outcomesFrom, problemOf}
 use Rattle.model.specs.Questions.{passes, fails, sectionQuestions, endQuestion, layoutQuestions, settingQuestions, stateObeys}
 use Rattle.model.specs.Questions.{stateQuestion, startQuestion, rowNumberQuestion, costObeys, rowObeys, rowQuestion}
@@ -99,6 +99,12 @@ tiedLater =
     settings 200 0
     (3 ∷ 0 ∷ state 2 (state 1 (goal (3 ∷ 0 ∷ row 200 (row 100 (row 100 (3 ∷ 0 ∷ to 2 (to 1 (to 2 [])))))))))
 
+-- D 5,000: the row of state 0, 1 s, leads back to it with weight 333 and to the goal with 667, 1 × 256 + 77 and 2 × 256 + 155
+abbrev pub rounding : List ℕ
+rounding =
+    settingsP
+    (2 ∷ 0 ∷ state 1 (goal (1 ∷ 0 ∷ 0 ∷ 2 ∷ 1 ∷ 0 ∷ 2 ∷ 0 ∷ 0 ∷ 0 ∷ 77 ∷ 1 ∷ 1 ∷ 0 ∷ 155 ∷ 2 ∷ [])))
+
 -- four lent tables of n entries, and what `plan` does with a file
 abbrev pub lent : ℕ → Tables
 lent n = record { values = replicate n 7; picks = replicate n 7; remembered = replicate n 7; walk-list = replicate n 7 }
@@ -106,7 +112,11 @@ lent n = record { values = replicate n 7; picks = replicate n 7; remembered = re
 abbrev pub planned : List ℕ → ℕ → Solution
 planned f n = solution f planRounds (lent n)
 
--- P's answer: "0 370000 0", "1 300000 2"; no pick at the goal
+-- what it prints of a file with n states
+abbrev pub printed : List ℕ → ℕ → List ℕ
+printed f n = planText (problemOf f) (planned f n)
+
+-- P's answer: "0 370000 0 0", "1 300000 2 0"; no pick at the goal
 abbrev pub valuesP : List ℕ
 valuesP = 370000 ∷ 300000 ∷ 0 ∷ []
 
@@ -124,9 +134,9 @@ valuesGives = 100000 ∷ 100000 ∷ 0 ∷ []
 abbrev pub at : ℕ → ℕ → ℕ → ℕ → Follower
 at s moves seconds mark = record { state = s; moves = moves; seconds = seconds; mark = mark }
 
--- "It prints, whole"
+-- "It prints, whole"; since E3 "The lines of P become `0 370000 0 0` and `1 300000 2 0`"
 abbrev pub textP : List ℕ
-textP = codes "solved 3 5 100000\n0 370000 0\n1 300000 2\n"
+textP = codes "solved 3 5 100000\n0 370000 0 0\n1 300000 2 0\n"
 
 -- two outcomes, with their weights
 abbrev pub two : ℕ → ℕ → List Outcome
@@ -153,6 +163,10 @@ rowWith os =
 abbrev pub averageOf : List Outcome → List ℕ → ℕ
 averageOf os table = rowValue (rowWith os) (byState table) 0
 
+-- and what the division leaves
+abbrev pub leftOf : List Outcome → List ℕ → ℕ
+leftOf os table = rowRemainder (rowWith os) (byState table) 0
+
 abbrev pub All : List (Type 0) → Type 0
 All [] = Unit {0}
 All (A ∷ As) = A × All As
@@ -160,7 +174,7 @@ All (A ∷ As) = A × All As
 -- the starred items, in the paper's order: each is a statement, and the list is proved as one below
 abbrev pub cases : List (Type 0)
 cases =
-    (planText 3 (planned fileP 3) ≡ textP)
+    (printed fileP 3 ≡ textP)
     ∷ (rateSeconds 10 ≡ 60000)
     ∷ (rateSeconds 700 ≡ 858)
     ∷ (rateSeconds 999 ≡ 601)
@@ -178,7 +192,7 @@ cases =
     ∷ (audit fileP valuesP picksP ≡ accepted 100000)
     ∷ (audit fileP (370001 ∷ 300000 ∷ 0 ∷ []) picksP ≡ Audited.refused 17 0 (pos 1))
     ∷ (audit fileP (369999 ∷ 300000 ∷ 0 ∷ []) picksP ≡ Audited.refused 19 0 (negsuc 0))
-    ∷ (planText 1 (planned oneState 1) ≡ codes "solved 2 0 1000\n0 1000 give\n")
+    ∷ (printed oneState 1 ≡ codes "solved 2 0 1000\n0 1000 give 0\n")
     ∷ []
 
 -- what else is worth computing: P and the one-state file in full, a line of the audit, the bytes of tables
@@ -203,11 +217,11 @@ abbrev pub requested : List (Type 0)
 requested =
     -- E1: a row of exactly 1000 × D is taken, at first and after values rose; of two such rows the earlier; where row 1 was picked
     -- and comes to tie with row 0, row 1 stays. Where each row is dearer, P's start gives up
-    (planText 2 (planned tied 2) ≡ codes "solved 2 2 100000\n0 100000 0\n")
-    ∷ (planText 3 (planned (penaltyP 114 1) 3) ≡ codes "solved 3 5 100000\n0 370000 0\n1 300000 2\n")
-    ∷ (planText 2 (planned tiedTwice 2) ≡ codes "solved 2 2 100000\n0 100000 0\n")
-    ∷ (planText 3 (planned tiedLater 3) ≡ codes "solved 3 6 100000\n0 200000 1\n1 100000 2\n")
-    ∷ (planText 3 (planned (penaltyP 100 0) 3) ≡ codes "solved 3 2 100000\n0 100000 give\n")
+    (printed tied 2 ≡ codes "solved 2 2 100000\n0 100000 0 0\n")
+    ∷ (printed (penaltyP 114 1) 3 ≡ codes "solved 3 5 100000\n0 370000 0 0\n1 300000 2 0\n")
+    ∷ (printed tiedTwice 2 ≡ codes "solved 2 2 100000\n0 100000 0 0\n")
+    ∷ (printed tiedLater 3 ≡ codes "solved 3 6 100000\n0 200000 1 0\n1 100000 2 0\n")
+    ∷ (printed (penaltyP 100 0) 3 ≡ codes "solved 3 2 100000\n0 100000 give 0\n")
     ∷ (planned (penaltyP 100 0) 3 .answer ≡ solved 3 2 100000)
     ∷ (planned (penaltyP 100 0) 3 .tables .picks ≡ 65535 ∷ 65535 ∷ 65534 ∷ [])
     ∷ (fileQuestions tied ≡ passes)
@@ -233,6 +247,13 @@ requested =
     ∷ (report fileP valuesP picksP (at 3 999999 400000000000 0) 0 .answer ≡ refused 22 0 (pos 0))
     ∷ (report fileP valuesP picksP (at 3 1000000 0 2) 0 .answer ≡ refused 20 0 (pos 0))
     ∷ (report fileP (370001 ∷ 300000 ∷ 0 ∷ []) picksP (at 3 1000000 0 2) 0 .answer ≡ refused 17 0 (pos 1))
+    -- E3: what the division leaves, of the averages above; a solved run, 333 × 1,498 being 498,834; and a spent one, of two rounds, 333 ×
+    -- 1,333 being 443,889, where the values before the last round would leave 0
+    ∷ (leftOf (two 500 500) (1 ∷ 1 ∷ []) ≡ 0)
+    ∷ (leftOf (two 1 999) (999 ∷ 0 ∷ []) ≡ 999)
+    ∷ (leftOf (two 1 999) (1000 ∷ 0 ∷ []) ≡ 0)
+    ∷ (printed rounding 2 ≡ codes "solved 8 8 1000\n0 1498 0 834\n")
+    ∷ (planText (problemOf rounding) (solution rounding 2 (lent 2)) ≡ codes "spent 2 2\n0 1333 0 889\n")
     ∷ []
 
 infixr 40 _and_
@@ -242,8 +263,8 @@ a and b = (a, b)
 computed : All cases × All others × All requested
 unfolding fileQuestions layoutQuestions sectionQuestions endQuestion settingQuestions itemQuestions stateQuestion stateObeys startQuestion
     rowNumberQuestion rowQuestion rowObeys costObeys outcomeNumberQuestion outcomeQuestion outcomesObey estimateQuestion undercutState
-    undercutRow first sumTo rowValue weightedSum totalWeight problemOf statesAt rowsAt outcomesAt fileEnd outcomesFrom rateSeconds
-    secondsOn u16At u32At
+    undercutRow first sumTo rowValue rowRemainder pickRemainder weightedSum totalWeight problemOf statesAt rowsAt outcomesAt fileEnd
+    outcomesFrom rateSeconds secondsOn u16At u32At
     solution solutionOn solutionOf solveQuestions checkedRunFrom checkedRound checkedBackups checkedBackup checkedScan checkedScanFrom
     checkedConsiderIf checkedConsider checkedConsiderOn checkedEvaluate beats evaluateOn settle raiseOn machineStart fillTo listTable
     walk visitState visitOutcomes next leastCost leastTo pickCost
@@ -257,7 +278,8 @@ computed = (
       and refl and refl and tt,
   refl and refl and refl and refl and refl and refl and refl and refl
       and refl and refl and refl and refl and refl and refl and refl and refl
-      and refl and refl and refl and refl and refl and refl and refl and refl and refl and tt,
+      and refl and refl and refl and refl and refl and refl and refl and refl and refl
+      and refl and refl and refl and refl and refl and tt,
 )
 
 pub cases-hold : All cases

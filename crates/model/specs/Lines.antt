@@ -9,7 +9,9 @@ use lib.IntN.{ℤ, pos, negsuc}
 use lib.ListN.{getD, take}
 use Rattle.model.specs.Audit.{Audited, accepted}
 use Rattle.model.specs.Limits.{giveUp}
+use Rattle.model.specs.Problem.{Problem}
 use Rattle.model.specs.Solution.{Answer, solved, spent, refused, Solution}
+use Rattle.model.specs.Value.{byState, pickRemainder}
 
 -- the codes of a text: those of "10" are 49, 48
 abbrev pub codes : String → List ℕ
@@ -44,14 +46,15 @@ answerLine (solved rounds evaluations C) =
 answerLine (spent rounds evaluations) = codes "spent" ++ blankNumber rounds ++ blankNumber evaluations ++ codes "\n"
 answerLine (refused q i) = codes "refused" ++ blankNumber q ++ blankNumber i ++ codes "\n"
 
--- "row or `give`", after a blank, to the end of the line
+-- "row or `give`", after a blank
 abbrev pub pickOn : Bool → ℕ → List ℕ
-pickOn true r = codes " give\n"
-pickOn false r = blankNumber r ++ codes "\n"
+pickOn true r = codes " give"
+pickOn false r = blankNumber r
 
--- "state, value, row or `give`"
-unfoldable pub stateLine : ℕ → ℕ → ℕ → List ℕ
-stateLine s value pick = decimal s ++ blankNumber value ++ pickOn (eqb pick giveUp) pick
+-- "state, value, row or `give`"; since E3 it "ends with the remainder"
+unfoldable pub stateLine : ℕ → ℕ → ℕ → ℕ → List ℕ
+stateLine s value pick remainder =
+    decimal s ++ blankNumber value ++ pickOn (eqb pick giveUp) pick ++ blankNumber remainder ++ codes "\n"
 
 -- whether a state stands in a walk list
 unfoldable pub listed : ℕ → List ℕ → Bool
@@ -63,10 +66,11 @@ lineOn true line = line
 lineOn false line = []
 
 -- "for each state of the last walk, by state number": of the first k states
-unfoldable pub stateLines : List ℕ → List ℕ → List ℕ → ℕ → List ℕ
-stateLines values picks walk zero = []
-stateLines values picks walk (suc k) =
-    stateLines values picks walk k ++ lineOn (listed k walk) (stateLine k (getD values k 0) (getD picks k 0))
+unfoldable pub stateLines : List ℕ → List ℕ → (ℕ → ℕ) → List ℕ → ℕ → List ℕ
+stateLines values picks remainder walk zero = []
+stateLines values picks remainder walk (suc k) =
+    stateLines values picks remainder walk k
+    ++ lineOn (listed k walk) (stateLine k (getD values k 0) (getD picks k 0) (remainder k))
 
 -- how many states a run has of a file with n states: a refusal has no run
 unfoldable pub runStates : Answer → ℕ → ℕ
@@ -74,15 +78,20 @@ runStates (solved rounds evaluations C) n = n
 runStates (spent rounds evaluations) n = n
 runStates (refused q i) n = 0
 
--- an answer, and k states of a run with its tables and its walk list
-abbrev pub runText : Answer → List ℕ → List ℕ → List ℕ → ℕ → List ℕ
-runText a values picks walk k = answerLine a ++ stateLines values picks walk k
+-- an answer, and k states of a run with its tables, a remainder for each state, and its walk list
+abbrev pub runText : Answer → List ℕ → List ℕ → (ℕ → ℕ) → List ℕ → ℕ → List ℕ
+runText a values picks remainder walk k = answerLine a ++ stateLines values picks remainder walk k
 
--- what `plan` prints of a file with n states and its solution
-unfoldable pub planText : ℕ → Solution → List ℕ
-planText n s =
-    let k = runStates (s .answer) n in
-    runText (s .answer) (s .tables .values) (s .tables .picks) (take k (s .tables .walk-list)) k
+-- "the remainder of its pick under the final values": of the pick at each state
+abbrev pub remaindersOf : Problem → List ℕ → List ℕ → ℕ → ℕ
+remaindersOf p values picks = λ s. pickRemainder p (byState values) (getD picks s 0)
+
+-- what `plan` prints of a problem and its solution
+unfoldable pub planText : Problem → Solution → List ℕ
+planText p s =
+    let k = runStates (s .answer) (p .states) in
+    let t = s .tables in
+    runText (s .answer) (t .values) (t .picks) (remaindersOf p (t .values) (t .picks)) (take k (t .walk-list)) k
 
 -- what `audit` prints: `accepted` C, or `refused` number place excess
 unfoldable pub auditLine : Audited → List ℕ

@@ -73,8 +73,8 @@ planSolution f values picks =
 -- the text was put at the front of `out`, whole where there is room for every text; the tables are those of the solution; the number of
 -- states that is told is 0 after a refusal, and lies within both tables
 pub record Plans (f values picks out values′ picks′ out′ : List ℕ) (size states : ℕ) : Type 0 where
-  pub text : Holds out out′ size (planText (problemOf f .states) (planSolution f values picks))
-  pub whole : planRoom ≤ length out → take size out′ ≡ planText (problemOf f .states) (planSolution f values picks)
+  pub text : Holds out out′ size (planText (problemOf f) (planSolution f values picks))
+  pub whole : planRoom ≤ length out → take size out′ ≡ planText (problemOf f) (planSolution f values picks)
   pub values-are : values′ ≡ planSolution f values picks .tables .values
   pub picks-are : picks′ ≡ planSolution f values picks .tables .picks
   pub states-are : states ≡ runStates (planSolution f values picks .answer) (problemOf f .states)

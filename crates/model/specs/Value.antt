@@ -1,8 +1,10 @@
 -- The row value: "1000 × c plus the sum of w × V(successor) divided by 1,000, rounded down once, after the sum."
-use Prim.Native.Nat.{ℕ, _+_, _*_, _/_}
+use Prim.Native.Nat.{ℕ, _+_, _*_, _/_, _%_}
+use mathlib.Core.Bool.{Bool, true, false}
 use mathlib.Core.List.{List, [], _∷_}
+use lib.Dec.{eqb}
 use lib.ListN.{getD}
-use Rattle.model.specs.Limits.{ticksPerSecond, weightTotal}
+use Rattle.model.specs.Limits.{ticksPerSecond, weightTotal, giveUp}
 use Rattle.model.specs.Problem.{Problem, Outcome}
 
 -- a table V, read as a function of the state
@@ -24,3 +26,15 @@ rowTicks p r = ticksPerSecond * p .cost r
 
 unfoldable pub rowValue : Problem → (ℕ → ℕ) → ℕ → ℕ
 rowValue p v r = rowTicks p r + weightedSum (p .outcomes r) v / weightTotal
+
+-- Request E3: "The row value shall come with its remainder, 0 to 999, wherever it is computed.": what the division leaves of the sum
+unfoldable pub rowRemainder : Problem → (ℕ → ℕ) → ℕ → ℕ
+rowRemainder p v r = weightedSum (p .outcomes r) v % weightTotal
+
+-- "the remainder of its pick .., 0 for `give`"
+abbrev pub pickRemainderOn : Bool → Problem → (ℕ → ℕ) → ℕ → ℕ
+pickRemainderOn true p v r = 0
+pickRemainderOn false p v r = rowRemainder p v r
+
+unfoldable pub pickRemainder : Problem → (ℕ → ℕ) → ℕ → ℕ
+pickRemainder p v pick = pickRemainderOn (eqb pick giveUp) p v pick

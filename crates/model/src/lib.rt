@@ -47,7 +47,7 @@ pub const MAX_SPENT: u64 = 400000000000;
 // The longest first line of `plan` and line of `audit`, the longest line of a state, and room for the text of every plan.
 pub const LINE_MOST: usize = 73;
 
-pub const STATE_MOST: usize = 22;
+pub const STATE_MOST: usize = 26;
 
 pub const PLAN_ROOM: usize = LINE_MOST + STATE_MOST * MAX_STATES;
 

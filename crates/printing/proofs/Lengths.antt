@@ -1,6 +1,6 @@
 -- How long the lines can be: a number below 10 ^ k has at most k digits.
 -- By induction on the fuel; the lines add up their parts.
-use mathlib.Core.Path.{_≡_, refl, _∙_}
+use mathlib.Core.Path.{_≡_, refl}
 use Prim.Native.Nat.{ℕ, zero, suc, _+_, _*_, _/_, _%_, _^_, _≤_, _<_}
 use native.Mathlib.Omega.{arith}
 use native.Mathlib.Nat.{pow-suc}
@@ -11,7 +11,7 @@ use lib.IntN.{ℤ, pos, negsuc}
 use lib.ListN.{length, getD, length-append}
 use lib.Signed.{mag}
 use borrow.Author.Tests.{ltb-false}
-use Rattle.model.specs.Limits.{giveUp, maxStates}
+use Rattle.model.specs.Limits.{giveUp, maxStates, weightTotal}
 use Rattle.model.specs.Lines.{codes, decimalOn, decimalFrom, decimal, blankNumber, blankSigned, answerLine, auditLine, pickOn, lineOn}
 use Rattle.model.specs.Lines.{listed, stateLine, stateLines, runText}
 use Rattle.model.specs.Audit.{Audited, accepted}
@@ -103,32 +103,39 @@ audit-refused-most q i x p r w =
     )
 
 -- the lines of the states
-pick-most : (b : Bool) (r : ℕ) → r < bits16 → length (pickOn b r) ≤ 7
+pick-most : (b : Bool) (r : ℕ) → r < bits16 → length (pickOn b r) ≤ 6
 pick-most true r h = omega arith
-pick-most false r h = omega (arith, length-append (blankNumber r) (codes "\n"), decimal-most 4 r (omega arith))
+pick-most false r h = omega (arith, decimal-most 4 r (omega arith))
 
-state-most : (s v r : ℕ) → s < maxStates → v < bits32 → r < bits16 → length (stateLine s v r) ≤ stateMost
+state-most : (s v r m : ℕ) → s < maxStates → v < bits32 → r < bits16 → m < weightTotal → length (stateLine s v r m) ≤ stateMost
 unfolding stateLine
-state-most s v r p q w =
-    omega (
-      arith,
-      two-most (decimal s) (blankNumber v) (pickOn (eqb r giveUp) r) 4 11 7 (decimal-most 3 s (omega arith))
-          (omega (arith, decimal-most 9 v (omega arith))) (pick-most (eqb r giveUp) r w),
-    )
+state-most s v r m p q w low =
+    let pick = pickOn (eqb r giveUp) r in
+    two-most (decimal s ++ blankNumber v ++ pick) (blankNumber m) (codes "\n") 21 4 1
+    (two-most (decimal s) (blankNumber v) pick 4 11 6 (decimal-most 3 s (omega arith))
+    (omega (arith, decimal-most 9 v (omega arith))) (pick-most (eqb r giveUp) r w))
+    (omega (arith, decimal-most 2 m (omega arith))) (omega arith)
 
 line-most : (b : Bool) (line : List ℕ) (n : ℕ) → length line ≤ n → length (lineOn b line) ≤ n
 line-most true line n h = h
 line-most false line n h = omega arith
 
-module _ (values picks walk : List ℕ) (values-fit : (j : ℕ) → getD values j 0 < bits32) (picks-fit : (j : ℕ) → getD picks j 0 < bits16)
-  where
-    lines-most : (k : ℕ) → k ≤ maxStates → length (stateLines values picks walk k) ≤ stateMost * k
-    unfolding stateLines
-    lines-most zero h = omega arith
-    lines-most (suc k) h =
-        let line = stateLine k (getD values k 0) (getD picks k 0) in
-        let short = line-most (listed k walk) line stateMost (state-most k _ _ (omega arith) (values-fit k) (picks-fit k)) in
-        omega (arith, length-append (stateLines values picks walk k) (lineOn (listed k walk) line), lines-most k (omega arith), short)
+module _ (values picks : List ℕ) (remainder : ℕ → ℕ) (walk : List ℕ) (values-fit : (j : ℕ) → getD values j 0 < bits32)
+    (picks-fit : (j : ℕ) → getD picks j 0 < bits16) where
+  lines-most
+      : (k : ℕ) → k ≤ maxStates → ((j : ℕ) → j < k → remainder j < weightTotal)
+      → length (stateLines values picks remainder walk k) ≤ stateMost * k
+  unfolding stateLines
+  lines-most zero h low = omega arith
+  lines-most (suc k) h low =
+      let line = stateLine k (getD values k 0) (getD picks k 0) (remainder k) in
+      let most = state-most k _ _ _ (omega arith) (values-fit k) (picks-fit k) (low k (omega arith)) in
+      let short = line-most (listed k walk) line stateMost most in
+      let rest = lines-most k (omega arith) (λ j l. low j (omega arith)) in
+      omega (arith, length-append (stateLines values picks remainder walk k) (lineOn (listed k walk) line), rest, short)
 
-    pub run-most : (a : Answer) (n : ℕ) → length (answerLine a) ≤ lineMost → Brief (runText a values picks walk n) n
-    run-most a n first h = omega (arith, length-append (answerLine a) (stateLines values picks walk n), first, lines-most n h)
+  pub run-most
+      : (a : Answer) (n : ℕ) → length (answerLine a) ≤ lineMost → ((j : ℕ) → j < n → remainder j < weightTotal)
+      → Brief (runText a values picks remainder walk n) n
+  run-most a n first low h =
+      omega (arith, length-append (answerLine a) (stateLines values picks remainder walk n), first, lines-most n h low)

@@ -50,55 +50,61 @@ module _ (walk marks : List ℕ) (k : ℕ) (h : Marking walk marks k) where
 
 -- one state more
 pub lines-next
-    : (values picks walk : List ℕ) (k : ℕ) → stateLines values picks walk (k + 1)
-    ≡ stateLines values picks walk k ++ lineOn (listed k walk) (stateLine k (getD values k 0) (getD picks k 0))
+    : (values picks : List ℕ) (remainder : ℕ → ℕ) (walk : List ℕ) (k : ℕ) → stateLines values picks remainder walk (k + 1)
+    ≡ stateLines values picks remainder walk k
+    ++ lineOn (listed k walk) (stateLine k (getD values k 0) (getD picks k 0) (remainder k))
 unfolding stateLines
-lines-next values picks walk k = rw add-one
+lines-next values picks remainder walk k = rw add-one
 
 -- the loop over the states: the lines of the first s stand after the front of `out₀`
-pub record Lined (values picks walk out₀ : List ℕ) (at : ℕ) (out : List ℕ) (to s : ℕ) : Type 0 where
-  pub there : s ≤ length walk
-  pub put : Holds out₀ out to (take at out₀ ++ stateLines values picks walk s)
+pub record Lined (values picks : List ℕ) (remainder : ℕ → ℕ) (walk out₀ : List ℕ) (at : ℕ) (out : List ℕ) (to s : ℕ) : Type 0
+  where
+    pub there : s ≤ length walk
+    pub put : Holds out₀ out to (take at out₀ ++ stateLines values picks remainder walk s)
 
-module _ {values picks walk out₀ : List ℕ} {at : ℕ} where
-  pub lines-start : at ≤ length out₀ → Lined values picks walk out₀ at out₀ at 0
+module _ {values picks : List ℕ} {remainder : ℕ → ℕ} {walk out₀ : List ℕ} {at : ℕ} where
+  pub lines-start : at ≤ length out₀ → Lined values picks remainder walk out₀ at out₀ at 0
   unfolding stateLines
   lines-start h = record { there = omega arith; put = same (sym (append-nil (take at out₀))) (stands out₀ at h) }
 
-  module _ {out : List ℕ} {to s : ℕ} (h : Lined values picks walk out₀ at out to s) where
+  module _ {out : List ℕ} {to s : ℕ} (h : Lined values picks remainder walk out₀ at out to s) where
     pub lines-go-on
         : {out′ : List ℕ} {to′ : ℕ} {b : Bool} → s < length walk → b ≡ listed s walk
-        → Holds out out′ to′ (take to out ++ lineOn b (stateLine s (getD values s 0) (getD picks s 0)))
-        → Lined values picks walk out₀ at out′ to′ (s + 1)
+        → Holds out out′ to′ (take to out ++ lineOn b (stateLine s (getD values s 0) (getD picks s 0) (remainder s)))
+        → Lined values picks remainder walk out₀ at out′ to′ (s + 1)
     lines-go-on l told k =
         record {
           there = omega arith;
-          put = rw (lines-next values picks walk s) (after (take at out₀) (stateLines values picks walk s) _ (h .put) (rw told at k));
+          put =
+              rw (lines-next values picks remainder walk s)
+              (after (take at out₀) (stateLines values picks remainder walk s) _ (h .put) (rw told at k));
         }
 
-    pub lines-end : length walk ≤ s → Holds out₀ out to (take at out₀ ++ stateLines values picks walk (length walk))
+    pub lines-end : length walk ≤ s → Holds out₀ out to (take at out₀ ++ stateLines values picks remainder walk (length walk))
     lines-end l = let e : s ≡ length walk = omega (arith, h .there) in rw e at (h .put)
 
 -- the row or `give` of a line
-module _ {out : List ℕ} (at r : ℕ) where
-  pub row-gives
-      : {d : List ℕ} {n : ℕ} → r ≡ giveUp → Holds out d n (take at out ++ codes " give\n")
-      → Holds out d n (take at out ++ pickOn (eqb r giveUp) r)
+module _ {out d : List ℕ} {n : ℕ} (at r : ℕ) where
+  pub row-gives : r ≡ giveUp → Holds out d n (take at out ++ codes " give") → Holds out d n (take at out ++ pickOn (eqb r giveUp) r)
   row-gives e g = rw (eq-eqb r giveUp e) g
 
   pub row-picks
-      : {c d : List ℕ} {m n : ℕ} → (r ≡ giveUp → ⊥) → Holds out c m (take at out ++ blankNumber r)
-      → Holds c d n (take m c ++ codes "\n") → Holds out d n (take at out ++ pickOn (eqb r giveUp) r)
-  row-picks ne g g′ = rw (ne-eqb r giveUp ne) (after (take at out) (blankNumber r) (codes "\n") g g′)
+      : (r ≡ giveUp → ⊥) → Holds out d n (take at out ++ blankNumber r) → Holds out d n (take at out ++ pickOn (eqb r giveUp) r)
+  row-picks ne g = rw (ne-eqb r giveUp ne) g
 
 -- a state's line, put in parts
 pub state-put
-    : {out b c d : List ℕ} (at : ℕ) {i j n : ℕ} (s v r : ℕ) → Holds out b i (take at out ++ decimal s)
-    → Holds b c j (take i b ++ blankNumber v) → Holds c d n (take j c ++ pickOn (eqb r giveUp) r)
-    → Holds out d n (take at out ++ stateLine s v r)
+    : {out b c d e g : List ℕ} (at : ℕ) {i j k l n : ℕ} (s v r m : ℕ) → Holds out b i (take at out ++ decimal s)
+    → Holds b c j (take i b ++ blankNumber v) → Holds c d k (take j c ++ pickOn (eqb r giveUp) r)
+    → Holds d e l (take k d ++ blankNumber m) → Holds e g n (take l e ++ codes "\n")
+    → Holds out g n (take at out ++ stateLine s v r m)
 unfolding stateLine
-state-put {out} at s v r h k g =
-    after (take at out) (decimal s ++ blankNumber v) (pickOn (eqb r giveUp) r) (after (take at out) (decimal s) (blankNumber v) h k) g
+state-put {out} at s v r m number value pick remainder end =
+    let front = take at out in
+    let to-value = after front (decimal s) (blankNumber v) number value in
+    let to-pick = after front (decimal s ++ blankNumber v) (pickOn (eqb r giveUp) r) to-value pick in
+    let to-remainder = after front (decimal s ++ blankNumber v ++ pickOn (eqb r giveUp) r) (blankNumber m) to-pick remainder in
+    after front (decimal s ++ blankNumber v ++ pickOn (eqb r giveUp) r ++ blankNumber m) (codes "\n") to-remainder end
 
 -- a line where the state is marked
 pub line-put

@@ -16,6 +16,7 @@ ghost use Rattle.model.specs.Limits.{giveUp};
 ghost use Rattle.model.specs.Lines.{codes, blankNumber, blankSigned, pickOn};
 ghost use Rattle.model.specs.Lines.{answerLine, auditLine, lineOn, stateLine, stateLines, runText};
 ghost use Rattle.model.specs.Buffers.{Holds, lineMost};
+ghost use Rattle.model.specs.Value.{byState};
 ghost use Rattle.printing.specs.Texts.{Brief, Marks, WalkWithin};
 
 // Puts a word and two numbers at the front of `out`.
@@ -70,7 +71,7 @@ fn put_answer(out: &mut [u8], answer: SolveAnswer) -> usize
     }
 }
 
-// Puts a blank and a row, or `give`, and ends the line.
+// Puts a blank and a row, or `give`.
 fn put_row(out: &mut [u8], at: usize, pick: u16) -> usize
     requires { ⌜ at ≤ length (now out) ⌝ }
     ensures { λ r.
@@ -78,20 +79,30 @@ fn put_row(out: &mut [u8], at: usize, pick: u16) -> usize
         (now (out .entry)) (now (out .exit)) r (take at (now (out .entry)) ++ pickOn (eqb pick giveUp) pick) ⌝ }
 {
     if pick == GIVE_UP {
-        return put(out, at, b" give\n");
+        return put(out, at, b" give");
     }
-    let to = put_next(out, at, pick as u64);
-    put(out, to, b"\n")
+    put_next(out, at, pick as u64)
 }
 
-// Puts a state's line: its number, its value, and its row or `give`.
-fn put_state(out: &mut [u8], at: usize, state: usize, value: u32, pick: u16) -> usize
+// Puts a state's line: its number, its value, its row or `give`, and the remainder.
+fn put_state(
+    out: &mut [u8],
+    at: usize,
+    state: usize,
+    value: u32,
+    pick: u16,
+    remainder: u16,
+) -> usize
     requires { ⌜ at ≤ length (now out) ⌝ }
-    ensures { λ r. ⌜ Holds (now (out .entry)) (now (out .exit)) r (take at (now (out .entry)) ++ stateLine state value pick) ⌝ }
+    ensures { λ r.
+        ⌜ Holds
+        (now (out .entry)) (now (out .exit)) r (take at (now (out .entry)) ++ stateLine state value pick remainder) ⌝ }
 {
     let a = put_number(out, at, state as u64);
     let b = put_next(out, a, value as u64);
-    put_row(out, b, pick)
+    let c = put_row(out, b, pick);
+    let d = put_next(out, c, remainder as u64);
+    put(out, d, b"\n")
 }
 
 // A mark for each state, 1 where it stands in a walk list.
@@ -118,35 +129,55 @@ fn put_marked(
     mark: u8,
     values: &[u32],
     picks: &[u16],
+    remainders: &[u16],
 ) -> usize
-    requires { ⌜ (at ≤ length (now out)) × (state < length (now values)) × (state < length (now picks)) ⌝ }
+    requires { ⌜ (at ≤ length (now out)) × (state < length (now values)) × (state < length (now picks))
+        × (state < length (now remainders)) ⌝ }
     ensures { λ r.
         ⌜ Holds
         (now (out .entry)) (now (out .exit)) r
         (take at (now (out .entry))
         ++ lineOn
-        (eqb mark 1) (stateLine state (getD (now (values .entry)) state 0) (getD (now (picks .entry)) state 0))) ⌝ }
+        (eqb mark 1)
+        (stateLine
+        state (getD (now (values .entry)) state 0) (getD (now (picks .entry)) state 0) (getD (now (remainders .entry)) state 0))) ⌝ }
 {
     if mark == 1 {
-        return put_state(out, at, state, values[state], picks[state]);
+        return put_state(
+            out,
+            at,
+            state,
+            values[state],
+            picks[state],
+            remainders[state],
+        );
     }
     at
 }
 
 // Puts the lines of the listed states, by state number.
-fn put_states(out: &mut [u8], at: usize, values: &[u32], picks: &[u16], walk: &[u16]) -> usize
-    requires { ⌜ (at ≤ length (now out)) × WalkWithin (now walk) (now values) (now picks) ⌝ }
+fn put_states(
+    out: &mut [u8],
+    at: usize,
+    values: &[u32],
+    picks: &[u16],
+    remainders: &[u16],
+    walk: &[u16],
+) -> usize
+    requires { ⌜ (at ≤ length (now out)) × WalkWithin (now walk) (now values) (now picks) (now remainders) ⌝ }
     ensures { λ r.
         ⌜ Holds
         (now (out .entry)) (now (out .exit)) r
         (take at (now (out .entry))
-        ++ stateLines (now (values .entry)) (now (picks .entry)) (now (walk .entry)) (length (now (walk .entry)))) ⌝ }
+        ++ stateLines
+        (now (values .entry)) (now (picks .entry)) (byState (now (remainders .entry))) (now (walk .entry))
+        (length (now (walk .entry)))) ⌝ }
 {
     let marks = marks_of(walk);
     let mut to = at;
     let mut s = 0;
     while s < walk.len() {
-        to = put_marked(out, to, s, marks[s], values, picks);
+        to = put_marked(out, to, s, marks[s], values, picks, remainders);
         s += 1;
     }
     to
@@ -157,23 +188,26 @@ pub fn plan_text(
     answer: SolveAnswer,
     values: &[u32],
     picks: &[u16],
+    remainders: &[u16],
     walk: &[u16],
     out: &mut [u8],
 ) -> usize
-    requires { ⌜ WalkWithin (now walk) (now values) (now picks) ⌝ }
+    requires { ⌜ WalkWithin (now walk) (now values) (now picks) (now remainders) ⌝ }
     ensures { λ r.
         ⌜ Holds
         (now (out .entry)) (now (out .exit)) r
         (runText
-        (answerOf answer) (now (values .entry)) (now (picks .entry)) (now (walk .entry)) (length (now (walk .entry)))) ⌝ }
+        (answerOf answer) (now (values .entry)) (now (picks .entry)) (byState (now (remainders .entry))) (now (walk .entry))
+        (length (now (walk .entry)))) ⌝ }
     ensures brief { λ r.
         ⌜ Brief
         (runText
-        (answerOf answer) (now (values .entry)) (now (picks .entry)) (now (walk .entry)) (length (now (walk .entry))))
+        (answerOf answer) (now (values .entry)) (now (picks .entry)) (byState (now (remainders .entry))) (now (walk .entry))
+        (length (now (walk .entry))))
         (length (now (walk .entry))) ⌝ }
 {
     let first = put_answer(out, answer);
-    put_states(out, first, values, picks, walk)
+    put_states(out, first, values, picks, remainders, walk)
 }
 
 // Puts the line of an accepted table.

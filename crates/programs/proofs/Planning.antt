@@ -1,26 +1,35 @@
 -- What a run that is no refusal says of its file, and the tables of a plan: questions 1 to 13 said yes, so the file is laid out and the
 -- tables have room for its states.
 use mathlib.Core.Path.{_≡_, refl, sym, _∙_, ap}
-use Prim.Native.Nat.{ℕ, _≤_}
+use Prim.Native.Nat.{ℕ, _≤_, _<_}
 use native.Mathlib.Omega.{arith}
 use mathlib.Core.Bool.{true≢false}
-use mathlib.Core.List.{List}
+use mathlib.Core.List.{List, _++_}
 use lib.ListN.{length, take}
 use lib.Seq.{length-take-le}
+use Rattle.model.specs.Answers.{answerOf, solveCarries}
 use Rattle.model.specs.Audit.{audit}
 use Rattle.model.specs.Buffers.{Holds}
+use Rattle.model.specs.Carried.{Said}
 use Rattle.model.specs.Limits.{maxStates, planRounds}
-use Rattle.model.specs.Lines.{runStates, runText, planText}
+use Rattle.model.specs.Lines.{answerLine, runStates, runText, remaindersOf, planText}
 use Rattle.model.specs.Promises.{planSolution, Plans}
 use Rattle.model.specs.Questions.{passes, fileQuestions, layoutQuestions}
 use Rattle.model.specs.Sections.{problemOf}
 use Rattle.model.specs.Solution.{Answer, solved, spent, refused, Tables, tables, solution}
+use Rattle.model.specs.Value.{byState}
+use Rattle.model.specs.declared.SolveAnswer.{SolveAnswer}
+use Rattle.model.specs.declared.SolveAnswer.the-variants.{Solved, Spent, Refused}
+use Rattle.guarantee.specs.Listings.{lines-pick}
 use Rattle.guarantee.specs.Prefixes.{audit-tables-front}
 use Rattle.guarantee.specs.Searches.{then-first}
 use Rattle.guarantee.specs.Solutions.{Told, turned-down, ran, told, lent-long}
+use Rattle.guarantee.specs.WellFormed.{well-formed}
 use Rattle.printing.specs.Texts.{Brief}
 use Rattle.printing.proofs.Putting.{same, uncut}
 use Rattle.programs.specs.AnswerFor.{AnswerFor}
+use Rattle.programs.specs.Remainders.{RemaindersTo}
+use Rattle.programs.proofs.Remaining.{table-entry, line-remainder, lines-same}
 
 module _ {f : List ℕ} {a : Answer} (s : AnswerFor f a) where
   run-passes : ((q i : ℕ) → a ≡ refused q i → ⊥) → layoutQuestions f ≡ passes
@@ -38,8 +47,10 @@ module _ {f : List ℕ} {a : Answer} (s : AnswerFor f a) where
   pub spent-passes : {n e : ℕ} → a ≡ spent n e → layoutQuestions f ≡ passes
   spent-passes {n} {e} h = run-passes (λ q i k. let never : spent n e ≡ refused q i = sym h ∙ k in absurd (true≢false (cc)))
 
--- the states of a run lie within the tables that were lent
-pub record Room (t : Tables) (k : ℕ) : Type 0 where
+-- the states of a run lie within the tables that were lent; where there are any, all those of the file do
+pub record Room (f : List ℕ) (t : Tables) (k : ℕ) : Type 0 where
+  pub few : k ≤ maxStates
+  pub states-room : 0 < k → problemOf f .states ≤ length (t .values)
   pub values-room : k ≤ length (t .values)
   pub picks-room : k ≤ length (t .picks)
   pub walk-room : k ≤ length (t .walk-list)
@@ -56,52 +67,76 @@ run-none a q i n e = rw e refl
 
 pub run-room
     : (f : List ℕ) (budget : ℕ) {t : Tables} {a : Answer} {k : ℕ} → a ≡ solution f budget t .answer
-    → k ≡ runStates a (problemOf f .states) → Room t k
+    → k ≡ runStates a (problemOf f .states) → Room f t k
 run-room f budget {t} {a} {k} is e = go (told f budget t)
   where
-    go : Told f budget t → Room t k
+    go : Told f budget t → Room f t k
     go (turned-down q i failed s) =
         let z : k ≡ 0 = e ∙ run-none a q i (problemOf f .states) (is ∙ ap (λ x. x .answer) s) in
-        record { values-room = omega arith; picks-room = omega arith; walk-room = omega arith }
+        record {
+          few = omega arith;
+          states-room = λ some. absurd (omega arith);
+          values-room = omega arith;
+          picks-room = omega arith;
+          walk-room = omega arith;
+        }
     go (ran file lent s) =
         let long = lent-long (problemOf f) budget t lent in
         let most : k ≤ problemOf f .states = rw e (run-states-most a (problemOf f .states)) in
         record {
+          few = omega (arith, well-formed f file .states-high);
+          states-room = λ some. long .values-long;
           values-room = omega (arith, long .values-long);
           picks-room = omega (arith, long .picks-long);
           walk-room = omega (arith, long .list-long);
         }
 
+-- where there are states the run was no refusal
+pub run-said : (r : SolveAnswer) (n : ℕ) → 0 < runStates (answerOf r) n → solveCarries r .said ≡ Said.refused → ⊥
+unfolding runStates
+run-said (Solved rounds evaluations least) n h e = absurd (true≢false (cc))
+run-said (Spent rounds evaluations) n h e = absurd (true≢false (cc))
+run-said (Refused q i) n h e = omega arith
+
 -- what was put is the text of the plan
 module _ (f values picks : List ℕ) {values′ picks′ remembered′ walk′ : List ℕ} {a : Answer} {k : ℕ}
     (answer-is : a ≡ planSolution f values picks .answer)
-    (left : tables values′ picks′ remembered′ walk′ ≡ planSolution f values picks .tables)
-    (e : k ≡ runStates a (problemOf f .states)) (within : k ≤ length walk′) where
-  text-is
-      : runText a values′ picks′ (take k walk′) (length (take k walk′)) ≡ planText (problemOf f .states) (planSolution f values picks)
+    (left-is : tables values′ picks′ remembered′ walk′ ≡ planSolution f values picks .tables)
+    (e : k ≡ runStates a (problemOf f .states)) (within : k ≤ length walk′)
+    {remainders : List ℕ} (remainders-are : RemaindersTo f values′ picks′ k remainders) where
+  abbrev put-text : List ℕ
+  put-text = runText a values′ picks′ (byState remainders) (take k walk′) (length (take k walk′))
+
+  text-is : put-text ≡ planText (problemOf f) (planSolution f values picks)
   unfolding planText
   text-is =
       let s = planSolution f values picks in
-      let v : values′ ≡ s .tables .values = ap (λ t. t .values) left in
-      let p : picks′ ≡ s .tables .picks = ap (λ t. t .picks) left in
-      let w : walk′ ≡ s .tables .walk-list = ap (λ t. t .walk-list) left in
-      rw (length-take-le k walk′ within, e, answer-is, v, p, w) refl
+      let t = s .tables in
+      let v : values′ ≡ t .values = ap (λ t. t .values) left-is in
+      let p : picks′ ≡ t .picks = ap (λ t. t .picks) left-is in
+      let w : walk′ ≡ t .walk-list = ap (λ t. t .walk-list) left-is in
+      let n = runStates (s .answer) (problemOf f .states) in
+      let same : k ≡ n = e ∙ rw answer-is refl in
+      let few : n ≤ maxStates = rw (← same) (run-room f planRounds answer-is e .few) in
+      let filled : RemaindersTo f (t .values) (t .picks) n remainders = rw (← v, ← p, ← same) remainders-are in
+      let lines =
+      lines-same (t .values) (t .picks) (byState remainders) (remaindersOf (problemOf f) (t .values) (t .picks)) (take n (t .walk-list)) n
+      (λ q l h. table-entry filled q few l ∙ line-remainder f (t .values) _ q (lines-pick f planRounds _ q (l, h))) in
+      rw (length-take-le k walk′ within, same, answer-is, v, p, w) (ap (λ l. answerLine (s .answer) ++ l) lines)
 
   pub plans
-      : {out out′ : List ℕ} {size : ℕ} → length values′ ≡ length values → length picks′ ≡ length picks → length walk′ ≡ maxStates
-      → Holds out out′ size (runText a values′ picks′ (take k walk′) (length (take k walk′)))
-      → Brief (runText a values′ picks′ (take k walk′) (length (take k walk′))) (length (take k walk′))
-      → Plans f values picks out values′ picks′ out′ size k
-  plans {out} {out′} {size} lv lp most text short =
+      : {out out′ : List ℕ} {size : ℕ} → length values′ ≡ length values → length picks′ ≡ length picks
+      → Holds out out′ size put-text → Brief put-text (length (take k walk′)) → Plans f values picks out values′ picks′ out′ size k
+  plans {out} {out′} {size} lv lp text short =
       let room = run-room f planRounds answer-is e in
       let size-is = length-take-le k walk′ within in
-      let fits = rw text-is at (short (omega (arith, size-is, most))) in
+      let fits = rw text-is at (short (omega (arith, size-is, room .few))) in
       let put = same text-is text in
       record {
         text = put;
-        whole = λ l. uncut put (omega (arith, fits, size-is, most, within, put .long));
-        values-are = ap (λ t. t .values) left;
-        picks-are = ap (λ t. t .picks) left;
+        whole = λ l. uncut put (omega (arith, fits, size-is, room .few, put .long));
+        values-are = ap (λ t. t .values) left-is;
+        picks-are = ap (λ t. t .picks) left-is;
         states-are = rw (← answer-is) e;
         values-hold = omega (arith, room .values-room, lv);
         picks-hold = omega (arith, room .picks-room, lp);

@@ -1,2 +1,3 @@
 -- What the contracts of `programs` cite beyond the model.
 pub mod AnswerFor
+pub mod Remainders

@@ -1,7 +1,7 @@
 -- The value of a row from the part of the file that the index gives to it, and its bounds.
 -- The problem is opened where the two readings of the outcomes meet.
 use mathlib.Core.Path.{_≡_, _∙_}
-use Prim.Native.Nat.{ℕ, _+_, _-_, _*_, _/_, _≤_, _<_}
+use Prim.Native.Nat.{ℕ, _+_, _-_, _*_, _/_, _%_, _≤_, _<_}
 use native.Mathlib.Nat.{div-le-self, mul-le-mul}
 use native.Mathlib.Omega.{arith}
 use mathlib.Core.Bool.{Bool, true, false}
@@ -12,7 +12,7 @@ use lib.ListN.{length, getD, drop}
 use Rattle.model.specs.Bytes.{u16At}
 use Rattle.model.specs.Limits.{weightTotal, maxRows, maxSeconds, stickSeconds, ticksPerSecond, valueBound}
 use Rattle.model.specs.Sections.{problemOf, rateSeconds, secondsOn, rowAt, kindOf, costNumberOf, outcomeAt, outcomeCountOf}
-use Rattle.model.specs.Value.{weightedSum, rowValue}
+use Rattle.model.specs.Value.{weightedSum, rowValue, rowRemainder}
 use Rattle.guarantee.specs.TableFiles.{u16-front}
 use Rattle.reading.specs.Ready.{Ready, RowReady, SumThere}
 use Rattle.reading.specs.RowParts.{part-size, part-reads, part-begins, part-ends, partFrom, partTo, rows-end}
@@ -77,6 +77,11 @@ module _ {f index : List ℕ} {entries r : ℕ} (h : RowReady f index entries r)
       ≡ rowValue (problemOf f) v r
   unfolding rowValue
   row-value-is v = rw (part-holds, h .ready .ticks r (h .row-there))
+
+  pub row-remainder-is
+      : (v : ℕ → ℕ) → weightedSum (outcomesIn (partOf f index r)) v % weightTotal ≡ rowRemainder (problemOf f) v r
+  unfolding rowRemainder
+  row-remainder-is v = rw part-holds
 
   -- a row's value is at least its cost
   pub cost-passes : (v : ℕ → ℕ) (x : ℕ) → x ≤ getD index (rowsBase + 2 * r + 1) 0 → ltb (rowValue (problemOf f) v r) x ≡ false

@@ -4,12 +4,12 @@ use crate::index::ROWS;
 use crate::numbers::u16_at;
 use model::WEIGHT_TOTAL;
 ghost use mathlib.Core.Path.{_≡_};
-ghost use Prim.Native.Nat.{_+_, _*_, _/_, _≤_, _<_};
+ghost use Prim.Native.Nat.{_+_, _*_, _/_, _%_, _≤_, _<_};
 ghost use lib.Dec.{ltb};
 ghost use lib.ListN.{length};
 ghost use Rattle.model.specs.Limits.{valueBound, weightTotal};
 ghost use Rattle.model.specs.Sections.{problemOf};
-ghost use Rattle.model.specs.Value.{rowValue, weightedSum, byState};
+ghost use Rattle.model.specs.Value.{rowValue, rowRemainder, weightedSum, byState};
 ghost use Rattle.reading.specs.Ready.{Ready, RowReady, SumThere, Undercuts};
 ghost use Rattle.reading.specs.Tests.{outcomesIn};
 ghost use Rattle.reading.specs.Bounds.{shortBound};
@@ -45,15 +45,34 @@ fn average(sum: u64) -> u64
     sum / (WEIGHT_TOTAL as u64)
 }
 
-// The value of row r under `values`: its cost in ticks and the weighted sum, divided by 1,000 once.
-pub fn row_value(file: &[u8], index: &[u32; INDEX], values: &[u32], r: usize) -> u64
+// What the average of a weighted sum leaves of it, 0 to 999.
+fn remainder_of(sum: u64, mean: u64) -> u64
+    requires { ⌜ mean ≡ sum / weightTotal ⌝ }
+    ensures { λ r. ⌜ r ≡ sum % weightTotal ⌝ }
+{
+    sum - mean * (WEIGHT_TOTAL as u64)
+}
+
+// The value of a row, and what its division left.
+pub struct RowValue {
+    pub value: u64,
+    pub remainder: u64,
+}
+
+// The value of row r under `values`: its cost in ticks and the weighted sum, divided by 1,000 once; and the remainder.
+pub fn row_value(file: &[u8], index: &[u32; INDEX], values: &[u32], r: usize) -> RowValue
     requires { ⌜ RowReady (now file) (now index) (length (now values)) r ⌝ }
-    ensures { λ q. ⌜ q ≡ rowValue (problemOf (now (file .entry))) (byState (now (values .entry))) r ⌝ }
+    ensures { λ q. ⌜ q .value ≡ rowValue (problemOf (now (file .entry))) (byState (now (values .entry))) r ⌝ }
+    ensures remainder { λ q. ⌜ q .remainder ≡ rowRemainder (problemOf (now (file .entry))) (byState (now (values .entry))) r ⌝ }
 {
     let from = index[ROWS + 2 * r] as usize;
     let cost = index[ROWS + 2 * r + 1] as u64;
     let to = index[ROWS + 2 * r + 2] as usize;
-    cost + average(weighted_sum(&file[from..to], values))
+    let sum = weighted_sum(&file[from..to], values);
+    let mean = average(sum);
+    let value = cost + mean;
+    let remainder = remainder_of(sum, mean);
+    RowValue { value, remainder }
 }
 
 // Whether the value of row r lies below `value`. It is at least the row's cost, so a `value` up to that needs no sum.
@@ -65,7 +84,8 @@ fn undercuts(file: &[u8], index: &[u32; INDEX], values: &[u32], value: u64, r: u
     if value <= cost {
         return false;
     }
-    row_value(file, index, values, r) < value
+    let q = row_value(file, index, values, r);
+    q.value < value
 }
 
 // The first state with a row whose value lies below the state's, and its first such row.

@@ -9,8 +9,10 @@ use Rattle.model.specs.Carried.{Said, Carried, ended}
 use Rattle.model.specs.Limits.{maxBudget}
 use Rattle.model.specs.Questions.{Verdict, passes, _then_, ask, fileQuestions}
 use Rattle.model.specs.Sections.{problemOf}
-use Rattle.model.specs.Solution.{Tables, solveQuestions}
+use Rattle.model.specs.Promises.{Leaves}
+use Rattle.model.specs.Solution.{Tables, solveQuestions, solution}
 use Rattle.reading.specs.Ready.{Ready}
+use Rattle.checking.specs.IndexLeft.{indexLeft}
 
 -- questions 12 and 13 about the tables' lengths and the budget
 unfoldable pub solveTests : ℕ → ℕ → ℕ → ℕ → ℕ → ℕ → ℕ → Verdict
@@ -31,3 +33,9 @@ pub record Solvable (f index : List ℕ) (budget : ℕ) (t : Tables) : Type 0 wh
   pub file-passes : fileQuestions f ≡ passes
   pub tables-pass : solveQuestions (problemOf f) budget t ≡ passes
   pub ready : Ready f index
+
+-- what a call answers and leaves; the index as questions 1 to 11 leave it, and that of the file where there was a run
+pub record FileSolved (f : List ℕ) (budget : ℕ) (t : Tables) (before index : List ℕ) (carried : Carried) (t′ : Tables) : Type 0 where
+  pub leaves : Leaves carried t′ (solution f budget t)
+  pub left : index ≡ indexLeft f before
+  pub ready : (carried .said ≡ Said.refused → ⊥) → Ready f index

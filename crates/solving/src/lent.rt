@@ -75,7 +75,8 @@ pub fn remember(file: &[u8], index: &[u32; INDEX], values: &[u32], remembered: &
 {
     let mut r = 0;
     while r < n {
-        remembered[r] = row_value(file, index, values, r) as u32;
+        let q = row_value(file, index, values, r);
+        remembered[r] = q.value as u32;
         r += 1;
     }
 }

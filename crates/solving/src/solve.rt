@@ -16,10 +16,12 @@ use reading::settings::settings_of;
 use reading::states::estimates;
 ghost use mathlib.Core.Path.{_≡_};
 ghost use mathlib.Core.Bool.{false};
+ghost use lib.ListN.{length};
 ghost use Rattle.model.specs.Answers.{solveCarries};
 ghost use Rattle.model.specs.Promises.{Leaves, EndsSolved, PassesAudit};
 ghost use Rattle.model.specs.Solution.{tables, solution};
-ghost use Rattle.solving.specs.Solvable.{runCarries, Solvable};
+ghost use Rattle.reading.specs.Tests.{indexSize};
+ghost use Rattle.solving.specs.Solvable.{runCarries, Solvable, FileSolved};
 
 // The answer of a run that ended.
 fn answer(end: Ended) -> SolveAnswer
@@ -89,24 +91,26 @@ fn solve_ready(
     answer(end)
 }
 
-// Questions 1 to 14 about a file, a budget and four lent tables, and the run where they let it be.
-fn solve_file(
+// Questions 1 to 14 about a file, a budget and four lent tables, and the run where they let it be. The index is that of the file
+// where there was a run.
+pub fn solve_file(
     file: &[u8],
     budget: u64,
     values: &mut [u32],
     picks: &mut [u16],
     remembered: &mut [u32],
     walk: &mut [u16],
+    index: &mut [u32; INDEX],
 ) -> SolveAnswer
+    requires { ⌜ length (now index) ≡ indexSize ⌝ }
     ensures { λ r.
-        ⌜ Leaves
-        (solveCarries r) (tables (now (values .exit)) (now (picks .exit)) (now (remembered .exit)) (now (walk .exit)))
-        (solution
+        ⌜ FileSolved
         (now (file .entry)) budget
-        (tables (now (values .entry)) (now (picks .entry)) (now (remembered .entry)) (now (walk .entry)))) ⌝ }
+        (tables (now (values .entry)) (now (picks .entry)) (now (remembered .entry)) (now (walk .entry))) (now (index .entry))
+        (now (index .exit)) (solveCarries r)
+        (tables (now (values .exit)) (now (picks .exit)) (now (remembered .exit)) (now (walk .exit))) ⌝ }
 {
-    let mut index = [0u32; INDEX];
-    let about_file = questions(file, &mut index);
+    let about_file = questions(file, index);
     if let FileAnswer::Refused { question, place } = about_file {
         return SolveAnswer::Refused { question, place };
     }
@@ -123,7 +127,7 @@ fn solve_file(
     if let FileAnswer::Refused { question, place } = about_tables {
         return SolveAnswer::Refused { question, place };
     }
-    solve_ready(file, &index, budget, values, picks, remembered, walk)
+    solve_ready(file, index, budget, values, picks, remembered, walk)
 }
 
 // Solves a file within a budget of rounds. The answer and what stands in the lent tables afterwards, entries beyond the counts
@@ -151,5 +155,6 @@ pub fn solve(
         (now (file .entry))
         (tables (now (values .exit)) (now (picks .exit)) (now (remembered .exit)) (now (walk .exit))) (solveCarries r) ⌝ }
 {
-    solve_file(file, budget, values, picks, remembered, walk)
+    let mut index = [0u32; INDEX];
+    solve_file(file, budget, values, picks, remembered, walk, &mut index)
 }

@@ -7,8 +7,8 @@ use comparisons::damage::damaged;
 use comparisons::examples::{file_p, one_state, stick};
 use comparisons::harness::{argument, Tally};
 use comparisons::limits::{MAX_PENALTY, MAX_STATES};
-use comparisons::listing::{ends_within, plan_lines};
-use comparisons::made::{at_limits, deep_chain, endless, made};
+use comparisons::listing::{ends_within, plan_lines, remainders_above_0};
+use comparisons::made::{at_limits, deep_chain, endless, endless_fan, made};
 use comparisons::programs::{run, Program};
 use comparisons::random::Random;
 use std::process::{Command, ExitCode};
@@ -17,17 +17,31 @@ use std::process::{Command, ExitCode};
 const MOST_ROUNDS: u64 = 20_000;
 /// A standard input longer than any problem file.
 const VERY_LONG: usize = 200_000;
-/// How many there must be of each answer.
-const LEAST: [(&str, u64); 3] = [("solved", 240), ("spent", 1), ("refused", 60)];
+/// How many there must be of each answer, and of remainders above 0 in its state lines. Only a spent
+/// run shows that they are taken under the final values: a solved run's last round changes no value.
+const LEAST: [(&str, u64); 5] = [
+    ("solved", 240),
+    ("spent", 3),
+    ("refused", 60),
+    ("remainders above 0, solved", 1_500),
+    ("remainders above 0, spent", 20),
+];
 
 /// Compares the program's lines on one input.
 fn compare(tally: &mut Tally, program: &Program, case: &str, input: &[u8]) {
     tally.case = case.to_string();
     let asked = plan_lines(input);
     let word = asked.split(' ').next().unwrap_or_default();
+    let remainders = remainders_above_0(&asked);
     match word {
-        "solved" => tally.count("solved"),
-        "spent" => tally.count("spent"),
+        "solved" => {
+            tally.count("solved");
+            tally.count_all("remainders above 0, solved", remainders);
+        }
+        "spent" => {
+            tally.count("spent");
+            tally.count_all("remainders above 0, spent", remainders);
+        }
         _ => tally.meet(asked.split(' ').nth(1).and_then(|q| q.parse().ok()).unwrap_or(0)),
     }
     let said = run(&mut Command::new(program.path()), input);
@@ -35,7 +49,7 @@ fn compare(tally: &mut Tally, program: &Program, case: &str, input: &[u8]) {
     tally.hold("the messages", said.messages.as_str(), "");
 }
 
-/// The files that stand for themselves: the paper's, the limits, a run that is spent, inputs empty
+/// The files that stand for themselves: the paper's, the limits, runs that are spent, inputs empty
 /// and very long.
 fn compare_set_files(tally: &mut Tally, program: &Program) {
     let mut random = Random::new(0);
@@ -64,6 +78,10 @@ fn compare_set_files(tally: &mut Tally, program: &Program) {
     let dear = at_limits(&mut random, true, MAX_PENALTY).bytes();
     if ends_within(&dear, MOST_ROUNDS) {
         compare(tally, program, "a file at the limits, the highest penalty", &dear);
+    }
+    for _ in 0..2 {
+        let fan = endless_fan(&mut random);
+        compare(tally, program, "a spent run that walks to a dozen states", &fan.bytes());
     }
 }
 

@@ -10,7 +10,7 @@ use comparisons::encode::Draft;
 use comparisons::examples::{file_p, one_state, stick};
 use comparisons::harness::{argument, noise, Tally};
 use comparisons::limits::{GIVE_UP, MAX_STATES, NO_PICK};
-use comparisons::listing::{audit_line, ends_within, planned, Planned};
+use comparisons::listing::{audit_line, ends_within, planned, remainders_above_0, Planned};
 use comparisons::made::{at_limits, deep_chain, endless, made};
 use comparisons::programs::{Folder, Program, Said};
 use comparisons::random::Random;
@@ -24,11 +24,14 @@ const MOST_ROUNDS: u64 = 20_000;
 const DAMAGES: usize = 6;
 /// How often each of the questions 15 to 19 must be met.
 const LEAST_MET: u64 = 20;
-/// How many there must be of each answer; `refused` are the audits that refuse.
-const LEAST: [(&str, u64); 5] = [
+/// How many there must be of each answer, and of remainders above 0 in a plan's lines; `refused` are
+/// the audits that refuse.
+const LEAST: [(&str, u64); 7] = [
     ("plans, solved", 120),
     ("plans, spent", 1),
     ("plans, refused", 25),
+    ("remainders above 0, solved", 900),
+    ("remainders above 0, spent", 2),
     ("audits, accepted", 500),
     ("refused", 500),
 ];
@@ -100,13 +103,16 @@ impl Day {
         };
         let written = NAMES.map(|name| self.folder.get(name).unwrap_or_default());
         let verdict = self.audit(file, &written);
+        let remainders = remainders_above_0(&lines);
         if let Some(solved) = lines.lines().next().and_then(|line| line.strip_prefix("solved ")) {
             let least_cost = solved.rsplit(' ').next().unwrap_or_default();
             self.tally.count("plans, solved");
+            self.tally.count_all("remainders above 0, solved", remainders);
             let asked = format!("accepted {least_cost}\n");
             self.tally.hold("the verdict on a solved run", &audit_line(verdict), &asked);
         } else {
             self.tally.count("plans, spent");
+            self.tally.count_all("remainders above 0, spent", remainders);
         }
         self.raise_a_tick(random, file, &tables);
         for _ in 0..DAMAGES {
@@ -135,7 +141,7 @@ impl Day {
         let file = file_p().bytes();
         self.folder.put("file", Some(&file));
         let lines = self.plan.run(&self.folder, &NAMES, &file).output;
-        self.tally.hold("plan", lines.as_str(), "solved 3 5 100000\n0 370000 0\n1 300000 2\n");
+        self.tally.hold("plan", lines.as_str(), "solved 3 5 100000\n0 370000 0 0\n1 300000 2 0\n");
         for (value, asked) in [
             (370_000, "accepted 100000\n"),
             (370_001, "refused 17 0 1\n"),

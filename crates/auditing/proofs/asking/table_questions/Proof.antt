@@ -25,24 +25,24 @@ returns c = c .refused .ensures ∙ table-stop-16 (c .before .before .before .be
 first-undercut-requires : tie.Need-first-undercut-requires
 first-undercut-requires c κs = (c .before .before .before .before .before .before .pre .walkable .ready, omega (arith, c .before .before .before .before .before .before .pre .states-are), omega (arith, c .before .before .before .before .before .before .pre .values-long))
 
-mul-excess : tie.Need-mul-excess
-mul-excess c = omega (arith, c .before .before .before .before .before .before .before .before .pre .states-are, c .before .before .before .before .before .before .before .before .pre .walkable .formed .states-high)
-
-shared-slice-read-excess : tie.Need-shared-slice-read-excess
-shared-slice-read-excess c = omega (arith, c .before .before .before .before .before .before .before .before .before .pre .values-long)
-
 row-value-requires : tie.Need-row-value-requires
 row-value-requires c κs =
     record {
-      ready = c .before .before .before .before .before .before .before .before .before .pre .walkable .ready;
-      entries-there = omega (arith, c .before .before .before .before .before .before .before .before .before .pre .states-are, c .before .before .before .before .before .before .before .before .before .pre .values-long);
-      row-there = undercut-there (c .before .before .before .before .before .before .before .before .before .pre) (c .before .before .first-undercut .ensures) (c .before .if2 .taken);
+      ready = c .before .before .before .before .before .before .before .before .pre .walkable .ready;
+      entries-there = omega (arith, c .before .before .before .before .before .before .before .before .pre .states-are, c .before .before .before .before .before .before .before .before .pre .values-long);
+      row-there = undercut-there (c .before .before .before .before .before .before .before .before .pre) (c .before .first-undercut .ensures) (c .if2 .taken);
     }
+
+mul-excess : tie.Need-mul-excess
+mul-excess c = omega (arith, c .before .before .before .before .before .before .before .before .before .pre .states-are, c .before .before .before .before .before .before .before .before .before .pre .walkable .formed .states-high)
+
+shared-slice-read-excess : tie.Need-shared-slice-read-excess
+shared-slice-read-excess c = omega (arith, c .before .before .before .before .before .before .before .before .before .before .pre .values-long)
 
 excess-requires : tie.Need-excess-requires
 excess-requires c κs =
     let there = undercut-there (c .before .before .before .before .before .before .before .before .before .before .pre) (c .before .before .before .first-undercut .ensures) (c .before .before .if2 .taken) in
-    rw (c .row-value .ensures)
+    rw (c .before .row-value .ensures .0)
     (row-value-low (c .before .before .before .before .before .before .before .before .before .before .pre .walkable .formed) (byState (c .before .before .before .before .before .before .before .before .before .before .args .values .now)) (λ s. c .before .before .before .before .before .before .before .before .shared-slice-known2 .given s .fits) _ there)
 
 refused-requires-2 : tie.Need-refused-requires-2
@@ -51,7 +51,7 @@ refused-requires-2 c κs = omega (arith, c .before .before .before .before .firs
 returns-2 : tie.Need-returns-2
 returns-2 c =
     c .refused2 .ensures
-    ∙ table-stop-17 (c .before .before .before .before .before .before .before .before .before .before .before .before .pre) (c .before .before .before .before .before .before .before .unbounded-state .ensures) (c .before .before .before .before .before .before .if1 .left) (c .before .before .before .before .before .first-undercut .ensures) (c .before .before .row-value .ensures)
+    ∙ table-stop-17 (c .before .before .before .before .before .before .before .before .before .before .before .before .pre) (c .before .before .before .before .before .before .before .unbounded-state .ensures) (c .before .before .before .before .before .before .if1 .left) (c .before .before .before .before .before .first-undercut .ensures) (c .before .before .before .row-value .ensures .0)
     (toZ-ofZ w64 _ (record { sfits = c .before .excess .ok }) ∙ (c .before .excess .ensures)) (c .before .before .before .before .if2 .taken)
 
 pick-questions-requires : tie.Need-pick-questions-requires
@@ -70,9 +70,9 @@ table-questions-spec =
     refused-requires
     returns
     first-undercut-requires
+    row-value-requires
     mul-excess
     shared-slice-read-excess
-    row-value-requires
     excess-requires
     refused-requires-2
     returns-2

@@ -17,7 +17,7 @@ row-value-requires c κs =
     }
 
 returns-2 : tie.Need-returns-2
-returns-2 c = rw (ne-eqb _ _ (c .before .if1 .left)) (c .row-value .ensures)
+returns-2 c = rw (ne-eqb _ _ (c .before .if1 .left)) (c .row-value .ensures .0)
 
 pub pick-value-spec : {M : Type 1} → statement M
 pick-value-spec = tie.close (tie.spec returns row-value-requires returns-2)

@@ -12,7 +12,7 @@ put-answer-requires : tie.Need-put-answer-requires
 put-answer-requires c κs = search needs
 
 put-states-requires : tie.Need-put-states-requires
-put-states-requires c κs = (c .before .before .before .put-answer .ensures .0 .within, c .before .before .before .before .before .before .before .before .before .pre)
+put-states-requires c κs = (c .before .before .before .put-answer .ensures .0 .within, c .before .before .before .before .before .before .before .before .before .before .pre)
 
 same-length : tie.Need-same-length
 same-length c = c .before .before .put-states .kept .0 ∙ (c .before .before .before .before .before .before .put-answer .kept .0)
@@ -20,8 +20,8 @@ same-length c = c .before .before .put-states .kept .0 ∙ (c .before .before .b
 returns : tie.Need-returns
 returns c = (
   more _ (c .before .before .before .before .before .before .put-answer .ensures .0) (c .before .before .put-states .ensures),
-  run-most _ _ _ (λ j. omega (arith, c .before .before .before .before .before .before .before .before .before .before .before .shared-slice-known .given j)) (λ j. omega (arith, c .before .before .before .before .before .before .before .before .before .before .shared-slice-known2 .given j)) _ _
-      (c .before .before .before .before .before .before .put-answer .ensures .1),
+  run-most _ _ _ _ (λ j. omega (arith, c .before .before .before .before .before .before .before .before .before .before .before .before .shared-slice-known .given j)) (λ j. omega (arith, c .before .before .before .before .before .before .before .before .before .before .before .shared-slice-known2 .given j)) _ _
+      (c .before .before .before .before .before .before .put-answer .ensures .1) (c .before .before .before .before .before .before .before .before .before .before .before .before .before .pre .remainders-low),
 )
 
 pub plan-text-spec : {M : Type 1} → statement M

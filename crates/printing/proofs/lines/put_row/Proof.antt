@@ -1,6 +1,5 @@
--- `put_row` puts `give` or the row, and ends the line.
+-- `put_row` puts `give` or the row.
 -- Made by `places make` from answers/lines/put_row.ans: edit that file, and not this one.
-use mathlib.Core.Path.{_∙_}
 use Rattle.printing.proofs.Listing.{row-gives, row-picks}
 use borrow.Author.Needs.{needs}
 use Rattle.printing.proofs.lines.put_row.Statement.{statement}
@@ -21,17 +20,11 @@ returns c = row-gives (c .before .before .before .before .before .before .before
 put-next-requires : tie.Need-put-next-requires
 put-next-requires c κs = c .before .before .before .pre
 
-slice-aggregate-put-2 : tie.Need-slice-aggregate-put-2
-slice-aggregate-put-2 c = search needs
-
-put-requires-2 : tie.Need-put-requires-2
-put-requires-2 c κs = c .before .before .before .before .put-next .ensures .within
-
 same-length-2 : tie.Need-same-length-2
-same-length-2 c = c .before .before .put2 .kept .0 ∙ (c .before .before .before .before .before .before .before .put-next .kept .0)
+same-length-2 c = c .before .before .put-next .kept .0
 
 returns-2 : tie.Need-returns-2
-returns-2 c = row-picks (c .before .before .before .before .before .before .before .before .before .before .before .args .at) _ (c .before .before .before .before .before .before .before .before .before .if1 .left) (c .before .before .before .before .before .before .before .put-next .ensures) (c .before .before .put2 .ensures)
+returns-2 c = row-picks (c .before .before .before .before .before .before .args .at) _ (c .before .before .before .before .if1 .left) (c .before .before .put-next .ensures)
 
 pub put-row-spec : {M : Type 1} → statement M
 put-row-spec =
@@ -42,7 +35,5 @@ put-row-spec =
     same-length
     returns
     put-next-requires
-    slice-aggregate-put-2
-    put-requires-2
     same-length-2
     returns-2)

@@ -2,6 +2,7 @@
 -- Made by `places make` from answers/lines/put_states.ans: edit that file, and not this one.
 use Prim.Native.Nat.{_-_}
 use lib.ListN.{length}
+use Rattle.model.specs.Value.{byState}
 use Rattle.printing.proofs.Listing.{Lined, lines-start, lines-go-on, lines-end}
 use borrow.Author.Needs.{needs}
 use native.Mathlib.Omega.{arith}
@@ -9,25 +10,26 @@ use Rattle.printing.proofs.lines.put_states.Statement.{statement}
 use Rattle.printing.proofs.lines.put_states.Tie as tie
 
 abbrev Inv-loop : tie.InvT-loop
-Inv-loop out₀ at values picks walk marks to₀ s₀ out to s = Lined values picks walk out₀ at out to s
+Inv-loop out₀ at values picks remainders walk marks to₀ s₀ out to s = Lined values picks (byState remainders) walk out₀ at out to s
 
 abbrev μ-loop : tie.MeasureT-loop
-μ-loop out₀ at values picks walk marks to₀ s₀ out to s = length walk - s
+μ-loop out₀ at values picks remainders walk marks to₀ s₀ out to s = length walk - s
 
 marks-of-requires : tie.Need-marks-of-requires Inv-loop μ-loop
 marks-of-requires c κs = search needs
 
 loop-holds : tie.Need-loop-holds Inv-loop μ-loop
-loop-holds c = lines-start (c .before .before .before .before .before .pre .0)
+loop-holds c = lines-start (c .before .before .before .before .before .before .pre .0)
 
 array-read-put-marked : tie.Need-array-read-put-marked Inv-loop μ-loop
-array-read-put-marked c = omega (arith, c .before .loop-test .taken, c .before .before .before .before .before .before .before .before .pre .1 .states)
+array-read-put-marked c = omega (arith, c .before .loop-test .taken, c .before .before .before .before .before .before .before .before .before .pre .1 .states)
 
 put-marked-requires : tie.Need-put-marked-requires Inv-loop μ-loop
 put-marked-requires c κs = (
   c .before .before .loop .inv .put .within,
-  omega (arith, c .before .loop-test .taken, c .before .before .before .before .before .before .before .before .pre .1 .values-long),
-  omega (arith, c .before .loop-test .taken, c .before .before .before .before .before .before .before .before .pre .1 .picks-long),
+  omega (arith, c .before .loop-test .taken, c .before .before .before .before .before .before .before .before .before .pre .1 .values-long),
+  omega (arith, c .before .loop-test .taken, c .before .before .before .before .before .before .before .before .before .pre .1 .picks-long),
+  omega (arith, c .before .loop-test .taken, c .before .before .before .before .before .before .before .before .before .pre .1 .remainders-long),
 )
 
 add-s : tie.Need-add-s Inv-loop μ-loop
@@ -39,7 +41,7 @@ loop-less c = search needs
 loop-again : tie.Need-loop-again Inv-loop μ-loop
 loop-again c =
     lines-go-on (c .before .before .before .before .before .loop .inv) (c .before .before .before .before .loop-test .taken)
-    (c .before .before .before .before .before .before .marks-of .ensures .tells (c .before .before .before .before .before .loop .s) (omega (arith, c .before .before .before .before .loop-test .taken, c .before .before .before .before .before .before .before .before .before .before .before .pre .1 .states))) (c .before .before .put-marked .ensures)
+    (c .before .before .before .before .before .before .marks-of .ensures .tells (c .before .before .before .before .before .loop .s) (omega (arith, c .before .before .before .before .loop-test .taken, c .before .before .before .before .before .before .before .before .before .before .before .before .pre .1 .states))) (c .before .before .put-marked .ensures)
 
 same-length : tie.Need-same-length Inv-loop μ-loop
 same-length c = c .before .loop .inv .put .long

@@ -1,6 +1,6 @@
 -- `row_value` hands the row's part of the file to the weighted sum: the part that the index gives holds the row's outcomes.
 -- Made by `places make` from answers/value/row_value.ans: edit that file, and not this one.
-use Rattle.reading.proofs.RowValues.{part-ordered, part-inside, sum-there, cost-fits, row-value-is}
+use Rattle.reading.proofs.RowValues.{part-ordered, part-inside, sum-there, cost-fits, row-value-is, row-remainder-is}
 use borrow.Author.Needs.{needs}
 use native.Mathlib.Omega.{arith}
 use Rattle.reading.proofs.value.row_value.Statement.{statement}
@@ -72,11 +72,17 @@ weighted-sum-requires c κs = sum-there (c .before .before .before .before .befo
 average-requires : tie.Need-average-requires
 average-requires c κs = search needs
 
-add-result : tie.Need-add-result
-add-result c = omega (arith, cost-fits (c .before .before .before .before .before .before .before .before .pre) (λ i. c .before .before .before .before .before .before .before .shared-slice-known .given i .fits), c .before .weighted-sum .ok, c .average .ensures)
+add-value : tie.Need-add-value
+add-value c = omega (arith, cost-fits (c .before .before .before .before .before .before .before .before .pre) (λ i. c .before .before .before .before .before .before .before .shared-slice-known .given i .fits), c .before .weighted-sum .ok, c .average .ensures)
+
+remainder-of-requires : tie.Need-remainder-of-requires
+remainder-of-requires c κs = c .average .ensures
 
 returns : tie.Need-returns
-returns c = rw (c .average .ensures, c .before .weighted-sum .ensures) (row-value-is (c .before .before .before .before .before .before .before .before .pre) _)
+returns c = (
+  rw (c .before .average .ensures, c .before .before .weighted-sum .ensures) (row-value-is (c .before .before .before .before .before .before .before .before .before .pre) _),
+  rw (c .remainder-of .ensures, c .before .before .weighted-sum .ensures) (row-remainder-is (c .before .before .before .before .before .before .before .before .before .pre) _),
+)
 
 pub row-value-spec : {M : Type 1} → statement M
 row-value-spec =
@@ -104,5 +110,6 @@ row-value-spec =
     part-weighted-sum-end
     weighted-sum-requires
     average-requires
-    add-result
+    add-value
+    remainder-of-requires
     returns)

@@ -33,7 +33,7 @@ row-value-requires : tie.Need-row-value-requires
 row-value-requires c κs = c .before .before .before .before .pre
 
 returns-2 : tie.Need-returns-2
-returns-2 c = rw (c .row-value .ensures)
+returns-2 c = rw (c .before .row-value .ensures .0)
 
 pub undercuts-spec : {M : Type 1} → statement M
 undercuts-spec =

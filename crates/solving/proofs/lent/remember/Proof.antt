@@ -31,8 +31,8 @@ cast-remembered : tie.Need-cast-remembered Inv-loop μ-loop
 cast-remembered c =
     omega (
       arith,
-      c .row-value .ensures,
-      c .before .before .before .before .before .before .pre .0 .fits (c .before .before .loop .r) (omega (arith, c .before .loop-test .taken, c .before .before .before .before .before .before .pre .1)),
+      c .before .row-value .ensures .0,
+      c .before .before .before .before .before .before .before .pre .0 .fits (c .before .before .before .loop .r) (omega (arith, c .before .before .loop-test .taken, c .before .before .before .before .before .before .before .pre .1)),
     )
 
 mul-remembered : tie.Need-mul-remembered Inv-loop μ-loop
@@ -40,16 +40,16 @@ mul-remembered c = search needs
 
 slice-write-remembered : tie.Need-slice-write-remembered Inv-loop μ-loop
 slice-write-remembered c =
-    omega (arith, c .before .before .before .before .before .before .pre .0 .remembered-long, c .before .before .loop .inv .long, c .before .loop-test .taken, c .before .before .before .before .before .before .pre .1)
+    omega (arith, c .before .before .before .before .before .before .before .pre .0 .remembered-long, c .before .before .before .loop .inv .long, c .before .before .loop-test .taken, c .before .before .before .before .before .before .before .pre .1)
 
 add-r : tie.Need-add-r Inv-loop μ-loop
-add-r c = omega (arith, c .before .loop-test .taken)
+add-r c = omega (arith, c .before .before .loop-test .taken)
 
 loop-less : tie.Need-loop-less Inv-loop μ-loop
-loop-less c = omega (arith, c .before .loop-test .taken)
+loop-less c = omega (arith, c .before .before .loop-test .taken)
 
 loop-again : tie.Need-loop-again Inv-loop μ-loop
-loop-again c = fill-goes-on (c .before .before .loop .inv) (c .row-value .ensures) (c .before .loop-test .taken)
+loop-again c = fill-goes-on (c .before .before .before .loop .inv) (c .before .row-value .ensures .0) (c .before .before .loop-test .taken)
 
 same-length : tie.Need-same-length Inv-loop μ-loop
 same-length c = c .before .loop .inv .long

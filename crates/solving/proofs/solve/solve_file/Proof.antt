@@ -1,23 +1,25 @@
 -- `solve_file` puts questions 1 to 13 in order, and solves where they all say yes. A no leaves the tables as they were lent.
 -- Made by `places make` from answers/solve/solve_file.ans: edit that file, and not this one.
-use Prim.Native.Nat.{ℕ}
-use mathlib.Core.Path.{_∙_, sym, ap}
-use lib.ListN.{length-replicate}
+use mathlib.Core.Path.{refl, _∙_, sym, ap}
 use Rattle.model.specs.Answers.{verdictOf}
-use Rattle.reading.specs.Tests.{indexSize}
 use Rattle.solving.proofs.Finishing.{file-refused, tables-refused, tests-are}
 use borrow.Author.Needs.{needs}
 use Rattle.solving.proofs.solve.solve_file.Statement.{statement}
 use Rattle.solving.proofs.solve.solve_file.Tie as tie
 
 questions-requires : tie.Need-questions-requires
-questions-requires c κs = length-replicate {A = ℕ} indexSize 0
+questions-requires c κs = search needs
 
 enum-known-about-file : tie.Need-enum-known-about-file
 enum-known-about-file c = search needs
 
 returns : tie.Need-returns
-returns c = file-refused _ _ _ (sym (ap verdictOf (c .before .about-file .given .1)) ∙ (c .before .before .before .questions .ensures .verdict))
+returns c =
+    record {
+      leaves = file-refused _ _ _ (sym (ap verdictOf (c .before .about-file .given .1)) ∙ (c .before .before .before .questions .ensures .verdict));
+      left = c .before .before .before .questions .ensures .left;
+      ready = λ ran. absurd (ran refl);
+    }
 
 enum-told : tie.Need-enum-told
 enum-told c = search needs
@@ -33,10 +35,15 @@ enum-known-about-tables c = search needs
 
 returns-2 : tie.Need-returns-2
 returns-2 c =
-    tables-refused _ _ _
-    (sym (ap verdictOf (c .before .before .before .before .before .enum-told .given .1)) ∙ (c .before .before .before .before .before .before .before .questions .ensures .verdict))
-    (sym (ap verdictOf (c .before .about-tables .given .1))
-    ∙ (c .before .before .before .solve-questions .ensures ∙ tests-are _ _ _ (c .before .before .before .before .layout-of .ensures .states-are) (c .before .before .before .before .layout-of .ensures .rows-are)))
+    record {
+      leaves =
+          tables-refused _ _ _
+          (sym (ap verdictOf (c .before .before .before .before .before .enum-told .given .1)) ∙ (c .before .before .before .before .before .before .before .questions .ensures .verdict))
+          (sym (ap verdictOf (c .before .about-tables .given .1))
+          ∙ (c .before .before .before .solve-questions .ensures ∙ tests-are _ _ _ (c .before .before .before .before .layout-of .ensures .states-are) (c .before .before .before .before .layout-of .ensures .rows-are)));
+      left = c .before .before .before .before .before .before .before .questions .ensures .left;
+      ready = λ ran. absurd (ran refl);
+    }
 
 enum-told-2 : tie.Need-enum-told-2
 enum-told-2 c = search needs
@@ -64,7 +71,12 @@ same-length-4 : tie.Need-same-length-4
 same-length-4 c = c .before .before .before .before .before .before .before .before .solve-ready .kept .1 .1 .1 .1 .1 .1 .0
 
 returns-3 : tie.Need-returns-3
-returns-3 c = c .before .before .before .before .before .before .before .before .solve-ready .ensures
+returns-3 c =
+    record {
+      leaves = c .before .before .before .before .before .before .before .before .solve-ready .ensures;
+      left = c .before .before .before .before .before .before .before .before .before .before .before .before .before .before .before .before .before .before .before .before .questions .ensures .left;
+      ready = λ ran. c .before .before .before .before .before .before .before .before .before .before .before .before .before .before .before .before .before .before .before .before .questions .ensures .ready (ap verdictOf (c .before .before .before .before .before .before .before .before .before .before .before .before .before .before .before .before .before .before .enum-told .given .1));
+    }
 
 pub solve-file-spec : {M : Type 1} → statement M
 solve-file-spec =

@@ -1,0 +1,83 @@
+-- The remainders that are printed are those of the model: the pick of a state with a line is a row, whose remainder was computed, or
+-- giving up, which is none of the rows. Lines hang on the remainders of listed states alone.
+use mathlib.Core.Path.{_≡_, refl, sym, _∙_, ap}
+use Prim.Native.Nat.{ℕ, zero, suc, _≤_, _<_}
+use native.Mathlib.Omega.{arith}
+use mathlib.Core.Bool.{Bool, true, false}
+use mathlib.Core.List.{List, _++_}
+use lib.Dec.{leb}
+use lib.ListN.{getD, length, replicate, length-replicate}
+use borrow.Author.Tests.{le-leb, lt-leb}
+use Rattle.model.specs.Limits.{maxStates, weightTotal}
+use Rattle.model.specs.Lines.{stateLine, stateLines, lineOn, listed}
+use Rattle.model.specs.Problem.{Problem}
+use Rattle.model.specs.Rounds.{fillTo}
+use Rattle.model.specs.Sections.{problemOf}
+use Rattle.model.specs.Value.{byState, rowRemainder, pickRemainderOn, pickRemainder}
+use Rattle.guarantee.specs.Listings.{PickLine, gives-up, takes-row}
+use Rattle.guarantee.specs.Tables.{fill-length, fill-entry}
+use Rattle.guarantee.specs.Values.{rowRemainder-low}
+use Rattle.printing.proofs.Widths.{bits16}
+use Rattle.programs.specs.Remainders.{remainderOf, remainderAt, RemaindersTo}
+
+-- the two answers of `pick_remainder`
+module _ (f values : List ℕ) (pick : ℕ) where
+  pub none-left : problemOf f .rows ≤ pick → 0 ≡ remainderOf f values pick
+  unfolding remainderOf
+  none-left h = rw (le-leb (problemOf f .rows) pick h) refl
+
+  pub row-left
+      : {x : ℕ} → pick < problemOf f .rows → x ≡ rowRemainder (problemOf f) (byState values) pick → x ≡ remainderOf f values pick
+  unfolding remainderOf
+  row-left h e = rw (lt-leb (problemOf f .rows) pick h) e
+
+  -- what was computed for a state with a line is the model's
+  pub line-remainder
+      : (s : ℕ) → PickLine (problemOf f) (byState values) s pick
+      → remainderOf f values pick ≡ pickRemainder (problemOf f) (byState values) pick
+  line-remainder s (gives-up gives above none) = sym (none-left above) ∙ sym none
+  line-remainder s (takes-row own there is) = sym (row-left there refl) ∙ sym is
+
+-- a remainder fits into 16 bits
+pub remainder-fits : (p : Problem) (v : ℕ → ℕ) (r : ℕ) {x : ℕ} → x ≡ rowRemainder p v r → x < bits16
+remainder-fits p v r e = omega (arith, rowRemainder-low p r v)
+
+remainder-low : (b : Bool) (p : Problem) (v : ℕ → ℕ) (r : ℕ) → pickRemainderOn b p v r < weightTotal
+remainder-low true p v r = omega arith
+remainder-low false p v r = rowRemainder-low p r v
+
+-- the table of them: where there was no run, and entry by entry
+pub none-filled : {f values picks : List ℕ} {n : ℕ} → n ≤ 0 → RemaindersTo f values picks n (replicate maxStates 0)
+unfolding fillTo
+none-filled {n = n} h = let e : n ≡ 0 = omega arith in record { filled = rw e refl }
+
+module _ {f values picks table : List ℕ} {n : ℕ} (h : RemaindersTo f values picks n table) where
+  pub table-long : length table ≡ maxStates
+  table-long =
+      rw (h .filled) (fill-length (remainderAt f values picks) (replicate maxStates 0) n ∙ length-replicate {A = ℕ} maxStates 0)
+
+  pub table-entry : (s : ℕ) → n ≤ maxStates → s < n → getD table s 0 ≡ remainderAt f values picks s
+  table-entry s few l =
+      let room : n ≤ length (replicate {A = ℕ} maxStates 0) = omega (arith, length-replicate {A = ℕ} maxStates 0) in
+      rw (h .filled) (fill-entry (remainderAt f values picks) (replicate maxStates 0) n s room l)
+
+  pub table-low : (s : ℕ) → n ≤ maxStates → s < n → getD table s 0 < weightTotal
+  unfolding remainderOf
+  table-low s few l = rw (table-entry s few l) (remainder-low (leb (problemOf f .rows) (getD picks s 0)) _ _ _)
+
+-- lines with the same remainders at listed states are the same
+pub lines-same
+    : (values picks : List ℕ) (a b : ℕ → ℕ) (walk : List ℕ) (k : ℕ) → ((s : ℕ) → s < k → listed s walk ≡ true → a s ≡ b s)
+    → stateLines values picks a walk k ≡ stateLines values picks b walk k
+unfolding stateLines
+lines-same values picks a b walk zero agree = refl
+lines-same values picks a b walk (suc k) agree =
+    rw (lines-same values picks a b walk k (λ s l. agree s (omega arith)))
+    (ap (λ l. stateLines values picks b walk k ++ l) (go (listed k walk) refl))
+  where
+    line : ℕ → List ℕ
+    line m = stateLine k (getD values k 0) (getD picks k 0) m
+
+    go : (c : Bool) → listed k walk ≡ c → lineOn c (line (a k)) ≡ lineOn c (line (b k))
+    go true e = ap line (agree k (omega arith) e)
+    go false e = refl
