@@ -1,4 +1,4 @@
-//! The starred items of "Melt-room cases", a test or two each.
+//! The starred items of "Melt-room cases" and the cases of requests E1 and E3, a test or two each.
 
 use crate::audit::{audit_file, Verdict};
 use crate::encode::Draft;

@@ -94,10 +94,10 @@ pub data Landed (p : Problem) (v : ℕ → ℕ) (s : ℕ) (c : Chosen) : Type 0 
   at-row : ownRow p s (c .pick) ≡ true → c .best ≡ rowValue p v (c .pick) → c .best ≤ giveUpCost p → Landed p v s c
 
 -- a pick: giving up, or one of the state's own rows
-abbrev pub IsPick : Problem → ℕ → ℕ → Type 0
-IsPick p s x = (x ≡ giveUp) ⊎ (ownRow p s x ≡ true)
+abbrev pub OwnPick : Problem → ℕ → ℕ → Type 0
+OwnPick p s x = (x ≡ giveUp) ⊎ (ownRow p s x ≡ true)
 
-pub landed-pick : {p : Problem} {v : ℕ → ℕ} {s : ℕ} {c : Chosen} → Landed p v s c → IsPick p s (c .pick)
+pub landed-pick : {p : Problem} {v : ℕ → ℕ} {s : ℕ} {c : Chosen} → Landed p v s c → OwnPick p s (c .pick)
 landed-pick (at-giving-up gives b) = inl gives
 landed-pick (at-row own b low) = inr own
 

@@ -23,13 +23,13 @@ use Rattle.guarantee.specs.Values.{pickRemainder-give, pickRemainder-row
 use Rattle.guarantee.specs.Walks.{own-row}
 use Rattle.guarantee.specs.Rows.{row-no-mark}
 use Rattle.guarantee.specs.Graphs.{in-cons, in-nil, set-entry}
-use Rattle.guarantee.specs.Choosing.{IsPick, landed-pick}
+use Rattle.guarantee.specs.Choosing.{OwnPick, landed-pick}
 use Rattle.guarantee.specs.Sound.{Sound, scan-landed, backup-sound}
 use Rattle.guarantee.specs.Backups.{Open, machineOf, backup-picks, walk-opens, round-list, walked-sound, round-sound, run-keeps}
 use Rattle.guarantee.specs.Solutions.{Told, turned-down, ran, told, lent-sound, runWith}
 
 abbrev Has : Problem → Machine → ℕ → Type 0
-Has p m s = IsPick p s (getD (m .picks) s 0)
+Has p m s = OwnPick p s (getD (m .picks) s 0)
 
 -- the machine is sound, and each state of the last walk has a pick
 record Picked (p : Problem) (m : Machine) : Type 0 where
@@ -40,7 +40,7 @@ module _ (p : Problem) (formed : WellFormed p) (e : ℕ) where
   backup-has : (s : ℕ) (m : Machine) → Open p s → Sound p m → (j : ℕ) → (j ≡ s) ⊎ Has p m j → Has p (backup p e s m) j
   backup-has s m o sound =
       rw (backup-picks p e s m)
-      (set-entry (λ j x. (j ≡ s) ⊎ Has p m j → IsPick p j x) (m .picks) s (scanOf p s m .pick)
+      (set-entry (λ j x. (j ≡ s) ⊎ Has p m j → OwnPick p j x) (m .picks) s (scanOf p s m .pick)
       (omega (arith, o .state, sound .picks-length))
       (λ j other. ⊎-elim (λ same. absurd (other same)) (λ has. has))
       (λ h. landed-pick (scan-landed p formed s m (o .state) sound)))
@@ -116,7 +116,7 @@ pub data PickLine (p : Problem) (v : ℕ → ℕ) (s x : ℕ) : Type 0 where
   gives-up : x ≡ giveUp → p .rows ≤ x → pickRemainder p v x ≡ 0 → PickLine p v s x
   takes-row : ownRow p s x ≡ true → x < p .rows → pickRemainder p v x ≡ rowRemainder p v x → PickLine p v s x
 
-pick-line : (p : Problem) → WellFormed p → (v : ℕ → ℕ) (s x : ℕ) → s < p .states → IsPick p s x → PickLine p v s x
+pick-line : (p : Problem) → WellFormed p → (v : ℕ → ℕ) (s x : ℕ) → s < p .states → OwnPick p s x → PickLine p v s x
 pick-line p formed v s x l (inl gives) = gives-up gives (omega (arith, formed .rows-high)) (rw gives (pickRemainder-give p v))
 pick-line p formed v s x l (inr own) =
     takes-row own (own-row p formed s x l own) (pickRemainder-row p v x (λ e. omega (arith, row-no-mark p formed s x l own)))

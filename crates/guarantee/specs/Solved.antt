@@ -21,7 +21,7 @@ use Rattle.guarantee.specs.WellFormed.{WellFormed, well-formed}
 use Rattle.guarantee.specs.Graphs.{in-cons, in-nil}
 use Rattle.guarantee.specs.Walks.{marked-reached, reached-listed}
 use Rattle.guarantee.specs.Rows.{row-no-mark}
-use Rattle.guarantee.specs.Choosing.{Chosen, choice, Landed, at-giving-up, at-row, IsPick, landed-pick, choice-landed, gives-up-dear}
+use Rattle.guarantee.specs.Choosing.{Chosen, choice, Landed, at-giving-up, at-row, OwnPick, landed-pick, choice-landed, gives-up-dear}
 use Rattle.guarantee.specs.Sound.{Sound, start-sound, scan-law, backup-sound}
 use Rattle.guarantee.specs.Backups.{Open, Backed, rose, turned, rested}
 use Rattle.guarantee.specs.Backups.{backed, walk-opens, walked-sound, round-sound, round-list, run-quiet}
@@ -86,7 +86,7 @@ module _ (p : Problem) (formed : WellFormed p) (e : ℕ) where
 
 -- where a choice landed on the pick, the pick is an own row or giving up, and its value is the choice's best
 module _ (p : Problem) (v picks : ℕ → ℕ) (s : ℕ) (c : Chosen) where
-  landed-fits : Landed p v s c → c .pick ≡ picks s → IsPick p s (picks s)
+  landed-fits : Landed p v s c → c .pick ≡ picks s → OwnPick p s (picks s)
   landed-fits landed same = rw (← same) (landed-pick landed)
 
   landed-value : WellFormed p → s < p .states → Landed p v s c → c .pick ≡ picks s → pickValue p v picks s ≡ c .best

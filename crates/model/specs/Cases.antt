@@ -164,14 +164,14 @@ abbrev pub averageOf : List Outcome → List ℕ → ℕ
 averageOf os table = rowValue (rowWith os) (byState table) 0
 
 -- and what the division leaves
-abbrev pub leftOf : List Outcome → List ℕ → ℕ
-leftOf os table = rowRemainder (rowWith os) (byState table) 0
+abbrev pub remainderOf : List Outcome → List ℕ → ℕ
+remainderOf os table = rowRemainder (rowWith os) (byState table) 0
 
 abbrev pub All : List (Type 0) → Type 0
 All [] = Unit {0}
 All (A ∷ As) = A × All As
 
--- the starred items, in the paper's order: each is a statement, and the list is proved as one below
+-- the starred items, in the paper's order, with state lines as E3 has them: each is a statement, and the list is proved as one below
 abbrev pub cases : List (Type 0)
 cases =
     (printed fileP 3 ≡ textP)
@@ -249,9 +249,9 @@ requested =
     ∷ (report fileP (370001 ∷ 300000 ∷ 0 ∷ []) picksP (at 3 1000000 0 2) 0 .answer ≡ refused 17 0 (pos 1))
     -- E3: what the division leaves, of the averages above; a solved run, 333 × 1,498 being 498,834; and a spent one, of two rounds, 333 ×
     -- 1,333 being 443,889, where the values before the last round would leave 0
-    ∷ (leftOf (two 500 500) (1 ∷ 1 ∷ []) ≡ 0)
-    ∷ (leftOf (two 1 999) (999 ∷ 0 ∷ []) ≡ 999)
-    ∷ (leftOf (two 1 999) (1000 ∷ 0 ∷ []) ≡ 0)
+    ∷ (remainderOf (two 500 500) (1 ∷ 1 ∷ []) ≡ 0)
+    ∷ (remainderOf (two 1 999) (999 ∷ 0 ∷ []) ≡ 999)
+    ∷ (remainderOf (two 1 999) (1000 ∷ 0 ∷ []) ≡ 0)
     ∷ (printed rounding 2 ≡ codes "solved 8 8 1000\n0 1498 0 834\n")
     ∷ (planText (problemOf rounding) (solution rounding 2 (lent 2)) ≡ codes "spent 2 2\n0 1333 0 889\n")
     ∷ []

@@ -1,4 +1,4 @@
--- The row value: "1000 × c plus the sum of w × V(successor) divided by 1,000, rounded down once, after the sum."
+-- The row value and its remainder. "1000 × c plus the sum of w × V(successor) divided by 1,000, rounded down once, after the sum."
 use Prim.Native.Nat.{ℕ, _+_, _*_, _/_, _%_}
 use mathlib.Core.Bool.{Bool, true, false}
 use mathlib.Core.List.{List, [], _∷_}
@@ -27,7 +27,7 @@ rowTicks p r = ticksPerSecond * p .cost r
 unfoldable pub rowValue : Problem → (ℕ → ℕ) → ℕ → ℕ
 rowValue p v r = rowTicks p r + weightedSum (p .outcomes r) v / weightTotal
 
--- Request E3: "The row value shall come with its remainder, 0 to 999, wherever it is computed.": what the division leaves of the sum
+-- Request E3: "The row value shall come with its remainder, 0 to 999, wherever it is computed." It is what the division leaves of the sum
 unfoldable pub rowRemainder : Problem → (ℕ → ℕ) → ℕ → ℕ
 rowRemainder p v r = weightedSum (p .outcomes r) v % weightTotal
 

@@ -18,23 +18,23 @@ use Rattle.guarantee.specs.Listings.{PickLine, gives-up, takes-row}
 use Rattle.guarantee.specs.Tables.{fill-length, fill-entry}
 use Rattle.guarantee.specs.Values.{rowRemainder-low}
 use Rattle.printing.proofs.Widths.{bits16}
-use Rattle.programs.specs.Remainders.{remainderOf, remainderAt, RemaindersTo}
+use Rattle.programs.specs.Remainders.{remainderWithin, remainderAt, RemaindersTo}
 
 -- the two answers of `pick_remainder`
 module _ (f values : List ℕ) (pick : ℕ) where
-  pub none-left : problemOf f .rows ≤ pick → 0 ≡ remainderOf f values pick
-  unfolding remainderOf
+  pub none-left : problemOf f .rows ≤ pick → 0 ≡ remainderWithin f values pick
+  unfolding remainderWithin
   none-left h = rw (le-leb (problemOf f .rows) pick h) refl
 
   pub row-left
-      : {x : ℕ} → pick < problemOf f .rows → x ≡ rowRemainder (problemOf f) (byState values) pick → x ≡ remainderOf f values pick
-  unfolding remainderOf
+      : {x : ℕ} → pick < problemOf f .rows → x ≡ rowRemainder (problemOf f) (byState values) pick → x ≡ remainderWithin f values pick
+  unfolding remainderWithin
   row-left h e = rw (lt-leb (problemOf f .rows) pick h) e
 
   -- what was computed for a state with a line is the model's
   pub line-remainder
       : (s : ℕ) → PickLine (problemOf f) (byState values) s pick
-      → remainderOf f values pick ≡ pickRemainder (problemOf f) (byState values) pick
+      → remainderWithin f values pick ≡ pickRemainder (problemOf f) (byState values) pick
   line-remainder s (gives-up gives above none) = sym (none-left above) ∙ sym none
   line-remainder s (takes-row own there is) = sym (row-left there refl) ∙ sym is
 
@@ -42,9 +42,9 @@ module _ (f values : List ℕ) (pick : ℕ) where
 pub remainder-fits : (p : Problem) (v : ℕ → ℕ) (r : ℕ) {x : ℕ} → x ≡ rowRemainder p v r → x < bits16
 remainder-fits p v r e = omega (arith, rowRemainder-low p r v)
 
-remainder-low : (b : Bool) (p : Problem) (v : ℕ → ℕ) (r : ℕ) → pickRemainderOn b p v r < weightTotal
-remainder-low true p v r = omega arith
-remainder-low false p v r = rowRemainder-low p r v
+pick-remainder-low : (b : Bool) (p : Problem) (v : ℕ → ℕ) (r : ℕ) → pickRemainderOn b p v r < weightTotal
+pick-remainder-low true p v r = omega arith
+pick-remainder-low false p v r = rowRemainder-low p r v
 
 -- the table of them: where there was no run, and entry by entry
 pub none-filled : {f values picks : List ℕ} {n : ℕ} → n ≤ 0 → RemaindersTo f values picks n (replicate maxStates 0)
@@ -62,8 +62,8 @@ module _ {f values picks table : List ℕ} {n : ℕ} (h : RemaindersTo f values 
       rw (h .filled) (fill-entry (remainderAt f values picks) (replicate maxStates 0) n s room l)
 
   pub table-low : (s : ℕ) → n ≤ maxStates → s < n → getD table s 0 < weightTotal
-  unfolding remainderOf
-  table-low s few l = rw (table-entry s few l) (remainder-low (leb (problemOf f .rows) (getD picks s 0)) _ _ _)
+  unfolding remainderWithin
+  table-low s few l = rw (table-entry s few l) (pick-remainder-low (leb (problemOf f .rows) (getD picks s 0)) _ _ _)
 
 -- lines with the same remainders at listed states are the same
 pub lines-same

@@ -16,11 +16,11 @@ use Rattle.reading.specs.Ready.{Ready}
 use Rattle.programs.specs.declared.Ran.{Ran}
 
 -- the remainder of a pick, 0 where it is none of the rows, and that of the pick at state s
-unfoldable pub remainderOf : List ℕ → List ℕ → ℕ → ℕ
-remainderOf f values pick = pickRemainderOn (leb (problemOf f .rows) pick) (problemOf f) (byState values) pick
+unfoldable pub remainderWithin : List ℕ → List ℕ → ℕ → ℕ
+remainderWithin f values pick = pickRemainderOn (leb (problemOf f .rows) pick) (problemOf f) (byState values) pick
 
 abbrev pub remainderAt : List ℕ → List ℕ → List ℕ → ℕ → ℕ
-remainderAt f values picks = λ s. remainderOf f values (getD picks s 0)
+remainderAt f values picks = λ s. remainderWithin f values (getD picks s 0)
 
 -- a table of those of the first n states, and zeros
 pub record RemaindersTo (f values picks : List ℕ) (n : ℕ) (table : List ℕ) : Type 0 where

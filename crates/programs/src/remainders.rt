@@ -1,4 +1,4 @@
-// The remainders of a plan: what rounding left of each state's pick under the values of the run.
+// The remainders of a plan: what rounding took away from the value of each state's pick, under the values that the run left.
 use model::MAX_STATES;
 use reading::index::INDEX;
 use reading::layout::layout_of;
@@ -8,12 +8,12 @@ ghost use Prim.Native.Nat.{_≤_};
 ghost use lib.ListN.{length};
 ghost use Rattle.model.specs.Limits.{maxStates};
 ghost use Rattle.model.specs.Rounds.{fillTo};
-ghost use Rattle.programs.specs.Remainders.{PicksReady, RunReady, RemaindersTo, remainderOf, remainderAt};
+ghost use Rattle.programs.specs.Remainders.{PicksReady, RunReady, RemaindersTo, remainderWithin, remainderAt};
 
 // The remainder of a pick under `values`, 0 where it is none of the rows.
 fn pick_remainder(file: &[u8], index: &[u32; INDEX], values: &[u32], rows: usize, pick: u16) -> u16
     requires { ⌜ PicksReady (now file) (now index) (now values) rows ⌝ }
-    ensures { λ r. ⌜ r ≡ remainderOf (now (file .entry)) (now (values .entry)) pick ⌝ }
+    ensures { λ r. ⌜ r ≡ remainderWithin (now (file .entry)) (now (values .entry)) pick ⌝ }
 {
     let r = pick as usize;
     if rows <= r {

@@ -1,5 +1,5 @@
--- What solving a file stands on: questions 12 and 13 as tests of lengths, what a run that ended carries, and a file that
--- may be run. What it leaves is in the model.
+-- What solving a file stands on: questions 12 and 13 as tests of lengths, what a run that ended carries, a file that may be run, and what
+-- a call leaves, the lent index included.
 use mathlib.Core.Path.{_≡_}
 use Prim.Native.Nat.{ℕ}
 use mathlib.Core.Bool.{Bool, true, false}

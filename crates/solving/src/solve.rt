@@ -1,5 +1,5 @@
 // Solving a file: questions 1 to 13, then the run, and what it leaves in the lent tables.
-// A no to one of them leaves every table as it was lent.
+// A no to one of them leaves the four tables as they were lent.
 use crate::lent::no_picks;
 use crate::lent::pad;
 use crate::lent::remember;

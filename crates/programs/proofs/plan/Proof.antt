@@ -12,7 +12,7 @@ use borrow.Author.Needs.{needs}
 use Rattle.programs.proofs.plan.Statement.{statement}
 use Rattle.programs.proofs.plan.Tie as tie
 
--- the states lie within the walk list, the values and the picks
+-- the states lie within the walk list
 walk-room : (c : tie.After-run) → c .run .result .states ≤ length (c .run .last .1 .1 .1 .1 .0)
 walk-room c =
     let room = run-room _ _ (answer-known (c .run .result .answer) _ (c .run .ensures .leaves .answer)) (c .run .ensures .states-are) in
