@@ -89,11 +89,11 @@ listed-parts s (suc n) (x ∷ a) b h = go (eqb x s) refl h (listed-parts s n a b
         let less : suc n - suc (length a) ≡ n - length a = omega arith in
         ⊎-elim (λ i. inl (there i)) (λ k. inr (rw less k)) (rest h)
 
--- in a list of n entries at most, padded to n, a number that is no mark stands in the list itself
 copies-alike : (n x : ℕ) {s : ℕ} → In s (replicate n x) → s ≡ x
 copies-alike zero x i = absurd (in-nil i)
 copies-alike (suc n) x i = ⊎-elim (λ same. same) (copies-alike n x) (in-cons i)
 
+-- among the first n entries of a walk list that was padded to n, a state stands in the list itself
 table-listed
     : (s n : ℕ) (list table : List ℕ) → s < listEnd → listed s (take n (listTable n list table)) ≡ true → In s list
 unfolding listTable listed
