@@ -5,12 +5,14 @@ use std::path::PathBuf;
 
 /// The programs that call the product's C interface, through `library.rs`. Each links as soon as the
 /// archive has the functions that it calls.
-const CALLERS: [&str; 7] = [
+const CALLERS: [&str; 9] = [
     "compare_reading",
+    "compare_rates",
     "compare_solving",
     "compare_audit",
     "compare_following",
     "bench",
+    "bench_checking",
     "bench_following",
     "measure_stack",
 ];

@@ -19,6 +19,7 @@ pub mod problem;
 pub mod programs;
 pub mod proposal;
 pub mod random;
+pub mod rate_table;
 pub mod solver;
 pub mod table_files;
 pub mod timing;

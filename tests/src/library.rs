@@ -4,6 +4,7 @@
 //! `build.rs` names them.
 
 use crate::follower::{Followed, Record};
+use crate::problem::Problem;
 use crate::solver::{Answer, Tables};
 
 extern "C" {
@@ -189,6 +190,14 @@ pub fn report(
             answer.as_mut_ptr(),
             answer.len(),
         )
+    }
+}
+
+/// The code and the answer that the paper asks of a check.
+pub fn asked_of_check(file: &[u8]) -> (u8, [u64; ANSWER]) {
+    match Problem::read(file) {
+        Ok(_) => (PASSED, [0, 0, 0]),
+        Err(refusal) => (REFUSED, [refusal.question, refusal.place, 0]),
     }
 }
 

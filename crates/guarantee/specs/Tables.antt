@@ -1,14 +1,18 @@
--- Laws of tables, read with default 0: what holds of all entries after a store, and what a filled table holds.
--- No index bound is asked where a store beyond the end changes nothing.
-use mathlib.Core.Path.{_≡_, refl, _∙_}
+-- Laws of tables, read with default 0: what holds of all entries after a store, what a filled table holds, and a rule of a table
+-- that is tested over the whole of it. No index bound is asked where a store beyond the end changes nothing.
+use mathlib.Core.Path.{_≡_, refl, ap, _∙_}
 use Prim.Native.Nat.{ℕ, zero, suc, _+_, _≤_, _<_}
 use native.Mathlib.Decide.{ℕ-discrete, decLt}
 use native.Mathlib.Numerals.{add-one}
 use native.Mathlib.Omega.{arith}
-use mathlib.Core.List.{List}
+use mathlib.Core.Bool.{Bool, true, _&&_}
+use mathlib.Core.List.{List, [], _∷_}
+use borrow.Author.Tests.{eqb-true}
+use lib.Dec.{eqb}
 use lib.ListN.{getD, set, length, length-set}
 use lib.Seq.{getD-set-same, getD-set-other, set-out}
 use Rattle.model.specs.Rounds.{fillTo}
+use Rattle.guarantee.specs.Searches.{and-left, and-right}
 
 -- what holds of every entry, and of x at place i, holds of every entry after x is stored at i
 pub stored : (P : ℕ → ℕ → Type 0) (l : List ℕ) (i x : ℕ) → ((j : ℕ) → P j (getD l j 0)) → P i x → (j : ℕ) → P j (getD (set l i x) j 0)
@@ -48,3 +52,15 @@ module _ (l : List ℕ) (i x y : ℕ) where
 
   pub pair-other : (j : ℕ) → (j ≡ i → ⊥) → (j ≡ i + 1 → ⊥) → getD (set (set l i x) (i + 1) y) j 0 ≡ getD l j 0
   pair-other j ne ne′ = getD-set-other (set l i x) (i + 1) j y 0 ne′ ∙ getD-set-other l i j x 0 ne
+
+-- a test to compute over a whole table: its entries are g i, g (i + 1) and so on
+abbrev pub tabulates : (ℕ → ℕ) → ℕ → List ℕ → Bool
+tabulates g i [] = true
+tabulates g i (x ∷ l) = eqb x (g i) && tabulates g (suc i) l
+
+-- a table that passes it has the rule at each entry
+pub tabulated : (g : ℕ → ℕ) (i : ℕ) (l : List ℕ) → tabulates g i l ≡ true → (k : ℕ) → k < length l → getD l k 0 ≡ g (i + k)
+tabulated g i [] t k h = absurd (omega arith)
+tabulated g i (x ∷ l) t zero h = eqb-true _ _ (and-left (eqb x (g i)) _ t) ∙ ap g (omega arith)
+tabulated g i (x ∷ l) t (suc k) h =
+    tabulated g (suc i) l (and-right (eqb x (g i)) _ t) k (omega arith) ∙ ap g (omega arith)

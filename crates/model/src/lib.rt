@@ -20,12 +20,10 @@ pub const TICKS_PER_SECOND: u32 = 1000;
 
 pub const WEIGHT_TOTAL: u32 = 1000;
 
-// Melt rates in tenths of a millimetre per minute, and the seconds of a stick at rate 1.
+// Melt rates in tenths of a millimetre per minute.
 pub const MIN_RATE: u32 = 10;
 
 pub const MAX_RATE: u32 = 1000;
-
-pub const STICK_SECONDS: u32 = 600000;
 
 // Picks that are no rows, and the end of a walk list.
 pub const GIVE_UP: u16 = 65535;

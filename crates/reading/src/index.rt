@@ -4,8 +4,10 @@ use crate::numbers::byte_at;
 use crate::numbers::u16_at;
 use model::MAX_ROWS;
 use model::MAX_STATES;
-use model::STICK_SECONDS;
 use model::TICKS_PER_SECOND;
+use rates::RATES;
+use rates::rate_seconds;
+use rates::rate_sheet;
 ghost use mathlib.Core.Path.{_≡_};
 ghost use mathlib.Core.Bool.{true};
 ghost use Prim.Native.Nat.{ℕ, _+_, _*_, _≤_, _<_};
@@ -16,6 +18,7 @@ ghost use Rattle.model.specs.Questions.{costObeys};
 ghost use Rattle.model.specs.Rounds.{fillTo};
 ghost use Rattle.model.specs.Search.{sumTo};
 ghost use Rattle.model.specs.Sections.{secondsOn};
+ghost use Rattle.rates.specs.Sheet.{RateSheet};
 ghost use Rattle.reading.specs.Laid.{lastOutcomes};
 ghost use Rattle.reading.specs.Tests.{rowCountAt, rowTest, RowsIndexed};
 
@@ -43,15 +46,15 @@ pub fn index_states(file: &[u8], at: usize, n: usize, index: &mut [u32; INDEX]) 
     total
 }
 
-// "600,000 / r rounded up" seconds for a melt rate, or the seconds themselves, in ticks.
-fn ticks(kind: u32, number: u32) -> u32
-    requires { ⌜ costObeys (eqb kind 0) number ≡ true ⌝ }
+// The seconds themselves, or for a melt rate those of the sheet, in ticks.
+fn ticks(sheet: &[u16; RATES], kind: u32, number: u32) -> u32
+    requires { ⌜ (RateSheet (now sheet)) × (costObeys (eqb kind 0) number ≡ true) ⌝ }
     ensures { λ r. ⌜ r ≡ ticksPerSecond * secondsOn (eqb kind 0) number ⌝ }
 {
     if kind == 0 {
         TICKS_PER_SECOND * number
     } else {
-        TICKS_PER_SECOND * ((STICK_SECONDS + (number - 1)) / number)
+        TICKS_PER_SECOND * (rate_seconds(sheet, number) as u32)
     }
 }
 
@@ -61,11 +64,16 @@ pub fn index_rows(file: &[u8], at: usize, n: usize, at3: usize, index: &mut [u32
         × ((r : ℕ) → r < n → rowTest (now file) at r ≡ true) ⌝ }
     ensures { λ r. ⌜ RowsIndexed (now (file .entry)) at n at3 (now (index .entry)) (now (index .exit)) r ⌝ }
 {
+    let sheet = rate_sheet();
     let mut total: u32 = 0;
     let mut r = 0;
     while r < n {
         index[ROWS + 2 * r] = (at3 as u32) + 4 * total;
-        index[ROWS + 2 * r + 1] = ticks(byte_at(file, at + 4 * r), u16_at(file, at + 4 * r + 2));
+        index[ROWS + 2 * r + 1] = ticks(
+            &sheet,
+            byte_at(file, at + 4 * r),
+            u16_at(file, at + 4 * r + 2),
+        );
         total += byte_at(file, at + 4 * r + 1);
         r += 1;
     }

@@ -7,7 +7,7 @@ use comparisons::damage::damaged;
 use comparisons::encode::Draft;
 use comparisons::examples::{file_p, one_state};
 use comparisons::harness::{argument, noise, Tally};
-use comparisons::library::{asked_of_lent, check, rows, ANSWER, PASSED, REFUSED};
+use comparisons::library::{asked_of_check, asked_of_lent, check, rows, ANSWER, PASSED};
 use comparisons::limits::{MAX_PENALTY, MAX_STATES, ROW_BYTES};
 use comparisons::made::{at_limits, deep_chain, made};
 use comparisons::problem::{lookup, Problem};
@@ -20,17 +20,9 @@ const LEAST_MET: u64 = 50;
 const LEAST: [(&str, u64); 3] =
     [("passed", 4_000), ("refused", 10_000), ("stretches, with rows", 6_000)];
 
-/// The code and the answer that the paper asks for.
-fn asked_check(file: &[u8]) -> (u8, [u64; ANSWER]) {
-    match Problem::read(file) {
-        Ok(_) => (PASSED, [0, 0, 0]),
-        Err(refusal) => (REFUSED, [refusal.question, refusal.place, 0]),
-    }
-}
-
 /// Compares the check of a file, with answers lent at every length from 0 to 5.
 fn compare_check(random: &mut Random, tally: &mut Tally, file: &[u8]) {
-    let (code, answer) = asked_check(file);
+    let (code, answer) = asked_of_check(file);
     match code {
         PASSED => tally.count("passed"),
         _ => tally.meet(answer[0]),

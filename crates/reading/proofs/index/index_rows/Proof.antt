@@ -13,14 +13,17 @@ use Rattle.reading.proofs.index.index_rows.Statement.{statement}
 use Rattle.reading.proofs.index.index_rows.Tie as tie
 
 abbrev Inv-loop : tie.InvT-loop
-Inv-loop file at n at3 index₀ total₀ r₀ index total r =
+Inv-loop file at n at3 index₀ sheet total₀ r₀ index total r =
     (r ≤ n)
     × (total ≤ maxByte * r)
     × (total ≡ sumTo (outcomeCountAt file at) r)
     × (index ≡ rowEntries (λ k. at3 + 4 * sumTo (outcomeCountAt file at) k) (ticksAt file at) index₀ r)
 
 abbrev μ-loop : tie.MeasureT-loop
-μ-loop file at n at3 index₀ total₀ r₀ index total r = n - r
+μ-loop file at n at3 index₀ sheet total₀ r₀ index total r = n - r
+
+rate-sheet-requires : tie.Need-rate-sheet-requires Inv-loop μ-loop
+rate-sheet-requires c κs = omega arith
 
 loop-holds : tie.Need-loop-holds Inv-loop μ-loop
 unfolding sumTo rowEntries
@@ -69,8 +72,10 @@ u16-at-requires : tie.Need-u16-at-requires Inv-loop μ-loop
 u16-at-requires c κs = omega arith
 
 ticks-requires : tie.Need-ticks-requires Inv-loop μ-loop
-ticks-requires c κs =
-    rw (c .before .byte-at .ensures .0, c .u16-at .ensures .0) (row-cost _ _ _ (c .before .before .before .before .before .pre .3 (c .before .before .before .loop .r) (c .before .before .loop-test .taken)))
+ticks-requires c κs = (
+  c .before .before .before .before .before .rate-sheet .ensures,
+  rw (c .before .byte-at .ensures .0, c .u16-at .ensures .0) (row-cost _ _ _ (c .before .before .before .before .before .before .before .pre .3 (c .before .before .before .before .loop .r) (c .before .before .before .loop-test .taken))),
+)
 
 mul-index-4 : tie.Need-mul-index-4 Inv-loop μ-loop
 mul-index-4 c = omega arith
@@ -110,11 +115,11 @@ loop-less c = omega arith
 
 loop-again : tie.Need-loop-again Inv-loop μ-loop
 loop-again c =
-    let n = sum-next (outcomeCountAt (c .before .before .before .before .before .before .before .args .file .now) (c .before .before .before .before .before .before .before .args .at)) (c .before .before .before .before .before .loop .r) in (
+    let n = sum-next (outcomeCountAt (c .before .before .before .before .before .before .before .before .before .args .file .now) (c .before .before .before .before .before .before .before .before .before .args .at)) (c .before .before .before .before .before .before .loop .r) in (
       omega arith,
       omega arith,
       omega arith,
-      rw (c .before .before .before .before .before .loop .inv .3, c .before .before .before .before .before .loop .inv .2, c .before .ticks .ensures, c .before .before .before .byte-at .ensures .0, c .before .before .u16-at .ensures .0, entries-next),
+      rw (c .before .before .before .before .before .before .loop .inv .3, c .before .before .before .before .before .before .loop .inv .2, c .before .ticks .ensures, c .before .before .before .byte-at .ensures .0, c .before .before .u16-at .ensures .0, entries-next),
     )
 
 cast-index-2 : tie.Need-cast-index-2 Inv-loop μ-loop
@@ -140,13 +145,14 @@ element-write-index-3 c = omega arith
 
 returns : tie.Need-returns Inv-loop μ-loop
 returns c =
-    let e : (c .before .before .before .args .n) ≡ (c .before .loop .r) = omega arith in
+    let e : (c .before .before .before .before .args .n) ≡ (c .before .loop .r) = omega arith in
     record { sum = rw e (c .before .loop .inv .2); entries = rw (e, c .before .loop .inv .3, c .before .loop .inv .2) }
 
 pub index-rows-spec : {M : Type 1} → statement M
 index-rows-spec =
     tie.close
     (tie.spec Inv-loop μ-loop
+    rate-sheet-requires
     loop-holds
     cast-index
     mul-index
