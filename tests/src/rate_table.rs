@@ -30,6 +30,7 @@ pub fn rate_table() -> String {
 #[cfg(test)]
 mod tests {
     use super::*;
+    use crate::limits::STICK;
 
     #[test]
     fn it_has_the_sheets_ends_and_991_entries() {
@@ -37,5 +38,16 @@ mod tests {
         let entries: Vec<&str> = text.lines().filter(|line| line.starts_with("    ")).collect();
         assert_eq!(entries.len(), 991);
         assert_eq!([entries[0], entries[990]], ["    60000, // 10", "    600, // 1000"]);
+    }
+
+    /// 600,000 / r rounded up, with no division: the fewest seconds c with c × r at least 600,000.
+    #[test]
+    fn each_entry_is_the_least_that_is_enough() {
+        let text = rate_table();
+        for (seconds, rate) in text.lines().filter_map(|line| line.split_once(", // ")) {
+            let [seconds, rate]: [u32; 2] =
+                [seconds, rate].map(|number| number.trim().parse().expect("a number"));
+            assert!((seconds - 1) * rate < STICK && STICK <= seconds * rate, "rate {rate}");
+        }
     }
 }
