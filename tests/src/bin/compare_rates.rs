@@ -6,7 +6,7 @@
 
 use comparisons::encode::Draft;
 use comparisons::harness::Tally;
-use comparisons::library::{self, asked_of_check, check, ANSWER, PASSED, REFUSED, SPENT};
+use comparisons::library::{self, asked_of_check, check, ANSWER, PASSED, SPENT};
 use comparisons::limits::*;
 use comparisons::listing::plan_lines;
 use comparisons::problem::{seconds_of, Problem};
@@ -16,12 +16,11 @@ use std::process::{Command, ExitCode};
 
 /// "A sheet of 991 seconds, for rates 10 to 1,000."
 const RATES: u64 = 991;
-/// How many there must be of each answer: a rate passes with an estimate of 0 and of its cost, meets 11
-/// one tick above; any other cost number is turned down; `plan` solves each rate.
-const LEAST: [(&str, u64); 5] = [
-    ("checks passed", 2 * RATES),
-    ("estimates a tick above the cost", RATES),
-    ("cost numbers that are no rate", 65_536 - RATES),
+/// How many there must be of each answer: a rate passes with an estimate of 0 and of its cost, and is
+/// refused one tick above; any other cost number is refused; `plan` solves each rate.
+const LEAST: [(&str, u64); 4] = [
+    ("passed", 2 * RATES),
+    ("refused", 65_536),
     ("rows in one file", RATES),
     ("plans solved", RATES),
 ];
@@ -41,28 +40,27 @@ fn one_row(number: u16, estimate: u32) -> Draft {
     draft
 }
 
-/// Compares the check of a file, and counts it where the paper's answer is the one that is meant.
-fn compare_check(tally: &mut Tally, file: &[u8], name: &'static str, meant: (u8, u64)) {
-    let asked = asked_of_check(file);
-    if (asked.0, asked.1[0]) == meant {
-        tally.count(name);
+/// Compares the check of one row with an estimate.
+fn compare_check(tally: &mut Tally, number: u16, estimate: u32) {
+    tally.case = format!("cost number {number}, estimate {estimate}");
+    let file = one_row(number, estimate).bytes();
+    let asked = asked_of_check(&file);
+    match asked.0 {
+        PASSED => tally.count("passed"),
+        _ => tally.meet(asked.1[0]),
     }
     let mut answer = [u64::MAX; ANSWER];
-    let code = check(file, &mut answer);
+    let code = check(&file, &mut answer);
     tally.hold("the check", &(code, answer), &asked);
 }
 
-/// Compares the checks of a cost number: a rate at its cost and around it, or no rate.
+/// Compares the checks of a cost number: with no estimate, and for a rate at its cost and a tick above.
 fn compare_checks(tally: &mut Tally, number: u16) {
-    tally.case = format!("cost number {number}");
-    let free = one_row(number, 0).bytes();
-    let Some(seconds) = seconds_of(KIND_RATE, number) else {
-        return compare_check(tally, &free, "cost numbers that are no rate", (REFUSED, 8));
-    };
-    let [at, above] = [0, 1].map(|more| one_row(number, TICKS * seconds + more).bytes());
-    compare_check(tally, &free, "checks passed", (PASSED, 0));
-    compare_check(tally, &at, "checks passed", (PASSED, 0));
-    compare_check(tally, &above, "estimates a tick above the cost", (REFUSED, 11));
+    compare_check(tally, number, 0);
+    if let Some(seconds) = seconds_of(KIND_RATE, number) {
+        compare_check(tally, number, TICKS * seconds);
+        compare_check(tally, number, TICKS * seconds + 1);
+    }
 }
 
 /// Compares what a run of no rounds remembers of each row of a file that has all rates, falling.
@@ -108,5 +106,5 @@ fn main() -> ExitCode {
     for number in (MIN_RATE..=MAX_RATE).chain(around) {
         compare_plan(&mut tally, &program, number);
     }
-    tally.close(1..=0, 0)
+    tally.close(11..=11, RATES)
 }
