@@ -102,6 +102,15 @@ impl Tally {
     }
 }
 
+/// Asserts that a stored file of the product is the text that is made here.
+pub fn assert_stored(path: &str, made: &str) {
+    let stored = std::fs::read_to_string(path).unwrap_or_else(|error| panic!("{path}: {error}"));
+    for (number, (has, asked)) in stored.lines().zip(made.lines()).enumerate() {
+        assert_eq!(has, asked, "line {} of {path}", number + 1);
+    }
+    assert_eq!(stored.len(), made.len(), "the length of {path}");
+}
+
 /// The front of what is printed of a table.
 fn shortened<T: Debug + ?Sized>(value: &T) -> String {
     let text = format!("{value:?}");

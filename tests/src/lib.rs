@@ -20,6 +20,7 @@ pub mod programs;
 pub mod proposal;
 pub mod random;
 pub mod rate_table;
+pub mod sheets;
 pub mod solver;
 pub mod table_files;
 pub mod timing;

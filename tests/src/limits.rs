@@ -40,6 +40,10 @@ pub const MIN_RATE: u16 = 10;
 pub const MAX_RATE: u16 = 1_000;
 /// "c is 600,000 / r rounded up", for a 1,000 mm stick.
 pub const STICK: u32 = 600_000;
+/// E5: "cost 600 × length / rate rounded up", the length in millimetres.
+pub const MILLIMETRE: u32 = 600;
+/// E5: "for each of the stick lengths 250, 500, 550 and 1,000 mm in turn".
+pub const STICK_LENGTHS: [u32; 4] = [250, 500, 550, 1_000];
 
 /// "A row's weights add to 1,000."
 pub const WEIGHT_TOTAL: u32 = 1_000;

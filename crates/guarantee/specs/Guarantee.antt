@@ -9,10 +9,10 @@ use mathlib.Core.Logic.{_⊎_, _↔_}
 use mathlib.Core.List.{List, [], _∷_}
 use lib.IntN.{ℤ, pos}
 use lib.ListN.{getD, length}
-use Rattle.model.specs.Limits.{maxBudget, giveUp, noPick, maxMoves, weightTotal}
+use Rattle.model.specs.Limits.{maxBudget, giveUp, noPick, maxMoves, weightTotal, minRate, maxRate}
 use Rattle.model.specs.Problem.{Problem, giveUpCost, ownRow}
 use Rattle.model.specs.Value.{byState, weightedSum, rowTicks, rowValue, rowRemainder}
-use Rattle.model.specs.Sections.{problemOf}
+use Rattle.model.specs.Sections.{lengthSeconds, rateSeconds, kindOf, costNumberOf, problemOf}
 use Rattle.model.specs.Questions.{passes, fails, _then_, fileQuestions}
 use Rattle.model.specs.Walk.{In, walk, Reached, successors, pickCost, leastCost}
 use Rattle.model.specs.Rounds.{Machine, scanOf, backup, backups, walked, round, machineStart, runOf, bellman}
@@ -23,6 +23,8 @@ use Rattle.model.specs.Following.{reports, acceptedOf}
 use Rattle.model.specs.declared.Follower.{Follower}
 use Rattle.model.specs.Cover.{Choice, Cover, planOf}
 use Rattle.model.specs.Promises.{roundsEnough}
+use Rattle.model.specs.Sheets.{sheetText, tableText}
+use Rattle.guarantee.specs.Rates.{seconds-rounded, rate-cost, table-printed}
 use Rattle.guarantee.specs.WellFormed.{well-formed}
 use Rattle.guarantee.specs.Walks.{reached-marked, walk-whole, listed-reached, listed-open, reached-listed, listed-places}
 use Rattle.guarantee.specs.Walks.{least-low, least-cheapest}
@@ -148,6 +150,23 @@ pub lines-name-picks
     : (f : List ℕ) (budget : ℕ) (t : Tables) (s : ℕ) → HasLine (problemOf f) (solution f budget t) s
     → PickLine (problemOf f) (byState (solution f budget t .tables .values)) s (getD (solution f budget t .tables .picks) s 0)
 lines-name-picks = lines-pick
+
+-- Request E5: "cost 600 × length / rate rounded up", and "the rounding rule holds for each length by one argument". With c for the cost,
+-- c × rate is at least 600 × length, and (c − 1) × rate is below it: of every length, and of every rate of at least 1
+pub rounding-rule
+    : (mm rate : ℕ) → 1 ≤ rate → (600 * mm ≤ lengthSeconds mm rate * rate) × (lengthSeconds mm rate * rate < 600 * mm + rate)
+rounding-rule = seconds-rounded
+
+-- "Its 1,000 mm sheet is the table of E4": of every table whose entry r − 10 is what rate r costs in a file, which `rate_sheet` promises of
+-- E4's
+pub sheet-is-the-table
+    : (table : List ℕ) → ((rate : ℕ) → minRate ≤ rate → rate ≤ maxRate → getD table (rate - minRate) 0 ≡ rateSeconds rate)
+    → tableText table ≡ sheetText 1000
+sheet-is-the-table = table-printed
+
+-- "Files keep the 1,000 mm meaning.": a row of kind 1 costs what the 1,000 mm sheet has at its rate
+pub files-keep-meaning : (f : List ℕ) (r : ℕ) → kindOf f r ≡ 1 → problemOf f .cost r ≡ lengthSeconds 1000 (costNumberOf f r)
+files-keep-meaning = rate-cost
 
 -- Demand 1: "the first failed question of document 01 with its place, lent tables unchanged (save at 14)". The question is one of 1 to 13
 pub refusal

@@ -3,6 +3,7 @@ pub mod Answers
 pub mod Values
 pub mod Searches
 pub mod Undercuts
+pub mod Rates
 pub mod WellFormed
 pub mod Graphs
 pub mod Walks

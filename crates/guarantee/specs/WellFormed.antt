@@ -1,8 +1,7 @@
 -- What questions 1 to 11 give: where the parts of the file lie within its bytes, and that the problem read off it is well formed.
 -- Each question's yes is turned into plain facts by the laws of searches and tests; the facts are collected in records.
 use mathlib.Core.Path.{_≡_, refl}
-use Prim.Native.Nat.{ℕ, suc, _+_, _-_, _*_, _/_, _≤_, _<_}
-use native.Mathlib.Nat.{le-div-iff-mul-le, div-lt-iff-lt-mul}
+use Prim.Native.Nat.{ℕ, suc, _+_, _*_, _≤_, _<_}
 use native.Mathlib.Omega.{arith}
 use mathlib.Core.Bool.{Bool, true, false, _&&_, _||_}
 use mathlib.Core.List.{List}
@@ -11,7 +10,7 @@ use lib.ListN.{length}
 use borrow.Author.Tests.{leb-true, ltb-true, eqb-true, ne-eqb, not-true}
 use Rattle.model.specs.Bytes.{u16At}
 use Rattle.model.specs.Limits.{settingCount, maxStates, maxRows, maxOutcomes, maxTolerance, maxPenalty, maxSeconds, minRate, maxRate}
-use Rattle.model.specs.Limits.{stickSeconds, weightTotal}
+use Rattle.model.specs.Limits.{fileStick, weightTotal}
 use Rattle.model.specs.Problem.{Problem, Outcome, giveUpCost, endRow}
 use Rattle.model.specs.Search.{sumTo}
 use Rattle.model.specs.Value.{rowValue, totalWeight}
@@ -21,6 +20,7 @@ use Rattle.model.specs.Questions.{passes, _then_, ask, between, sectionQuestion
 use Rattle.model.specs.Questions.{stateObeys, stateQuestion, startQuestion, rowNumberQuestion, costObeys, rowObeys, rowQuestion}
 use Rattle.model.specs.Questions.{outcomeNumberQuestion, outcomesObey, outcomeQuestion, estimateQuestion, itemQuestions, fileQuestions}
 use Rattle.model.specs.Walk.{In, here, there}
+use Rattle.guarantee.specs.Rates.{seconds-low, seconds-high}
 use Rattle.guarantee.specs.Searches.{and-left, and-right, or-skip, then-first, then-next, ask-yes, ask-each-yes, sum-monotone}
 use Rattle.guarantee.specs.Searches.{sum-room}
 use Rattle.guarantee.specs.Undercuts.{undercut-none}
@@ -244,20 +244,12 @@ module _ (limit estimate rowCount goalByte : ℕ) (h : stateObeys limit estimate
 
 -- question 8: a cost number in its kind's range gives 1 to 65,535 seconds
 
-pub rate-low : (r : ℕ) → minRate ≤ r → 1 ≤ rateSeconds r
-unfolding rateSeconds
-rate-low r low = le-div-iff-mul-le {k = r} (omega arith) .1 (omega arith)
-
-pub rate-high : (r : ℕ) → minRate ≤ r → rateSeconds r ≤ maxSeconds
-unfolding rateSeconds
-rate-high r low =
-    let l : (stickSeconds + (r - 1)) / r < maxSeconds + 1 = div-lt-iff-lt-mul {k = r} (omega arith) .1 (omega arith) in
-    omega arith
-
 seconds-range : (b : Bool) (n : ℕ) → costObeys b n ≡ true → (1 ≤ secondsOn b n) × (secondsOn b n ≤ maxSeconds)
-unfolding costObeys secondsOn
+unfolding costObeys secondsOn rateSeconds
 seconds-range true n h = (between-low 1 maxSeconds n h, between-high 1 maxSeconds n h)
-seconds-range false n h = let low = between-low minRate maxRate n h in (rate-low n low, rate-high n low)
+seconds-range false n h =
+    let low = between-low minRate maxRate n h in
+    (seconds-low fileStick n (omega arith) (omega arith), seconds-high fileStick n (omega arith) low)
 
 row-obeys : (kind count number : ℕ) → rowObeys kind count number ≡ true → (leb 1 count && costObeys (eqb kind 0) number) ≡ true
 unfolding rowObeys

@@ -11,7 +11,8 @@ use Rattle.model.specs.Limits.{planRounds}
 use Rattle.model.specs.Problem.{Problem, Outcome}
 use Rattle.model.specs.Search.{first, sumTo}
 use Rattle.model.specs.Value.{byState, weightedSum, totalWeight, rowValue, rowRemainder, pickRemainder}
-use Rattle.model.specs.Sections.{statesAt, rowsAt, outcomesAt, fileEnd, rateSeconds, secondsOn, outcomesFrom, problemOf}
+use Rattle.model.specs.Sections.{statesAt, rowsAt, outcomesAt, fileEnd, lengthSeconds, rateSeconds, secondsOn}
+use Rattle.model.specs.Sections.{outcomesFrom, problemOf}
 use Rattle.model.specs.Questions.{passes, fails, sectionQuestions, endQuestion, layoutQuestions, settingQuestions, stateObeys}
 use Rattle.model.specs.Questions.{stateQuestion, startQuestion, rowNumberQuestion, costObeys, rowObeys, rowQuestion}
 use Rattle.model.specs.Questions.{outcomeNumberQuestion, outcomesObey, outcomeQuestion, undercutRow, undercutState}
@@ -28,6 +29,7 @@ use Rattle.model.specs.Following.{moved, report, reports, acceptedOf}
 use Rattle.model.specs.declared.Follower.{Follower}
 use Rattle.model.specs.Lines.{codes, planText, answerLine, stateLines, stateLine, listed, runStates}
 use Rattle.model.specs.Lines.{decimal, decimalFrom, auditLine}
+use Rattle.model.specs.Sheets.{rateLine, rateLines}
 use Rattle.model.specs.TableFiles.{bytes32, entries16, numberBytes, tableBytes, listTo}
 
 -- the parts of a small file, each with what follows it: settings with start 0, e 1 and D in two bytes; a state that is no goal,
@@ -254,6 +256,11 @@ requested =
     ∷ (remainderOf (two 1 999) (1000 ∷ 0 ∷ []) ≡ 0)
     ∷ (printed rounding 2 ≡ codes "solved 8 8 1000\n0 1498 0 834\n")
     ∷ (planText (problemOf rounding) (solution rounding 2 (lent 2)) ≡ codes "spent 2 2\n0 1333 0 889\n")
+    -- E5: seconds that are rounded up, and some that come out even; the first two lines of a sheet
+    ∷ (lengthSeconds 250 700 ≡ 215)
+    ∷ (lengthSeconds 500 1000 ≡ 300)
+    ∷ (lengthSeconds 550 999 ≡ 331)
+    ∷ (rateLines (lengthSeconds 1000) 2 ≡ codes "10 60000\n11 54546\n")
     ∷ []
 
 infixr 40 _and_
@@ -264,13 +271,14 @@ computed : All cases × All others × All requested
 unfolding fileQuestions layoutQuestions sectionQuestions endQuestion settingQuestions itemQuestions stateQuestion stateObeys startQuestion
     rowNumberQuestion rowQuestion rowObeys costObeys outcomeNumberQuestion outcomeQuestion outcomesObey estimateQuestion undercutState
     undercutRow first sumTo rowValue rowRemainder pickRemainder weightedSum totalWeight problemOf statesAt rowsAt outcomesAt fileEnd
-    outcomesFrom rateSeconds secondsOn u16At u32At
+    outcomesFrom lengthSeconds rateSeconds secondsOn u16At u32At
     solution solutionOn solutionOf solveQuestions checkedRunFrom checkedRound checkedBackups checkedBackup checkedScan checkedScanFrom
     checkedConsiderIf checkedConsider checkedConsiderOn checkedEvaluate beats evaluateOn settle raiseOn machineStart fillTo listTable
     walk visitState visitOutcomes next leastCost leastTo pickCost
     audit problemAudit tableQuestions unboundedState strayState slackState pickValue
     opening report reports acceptedOf reportQuestions moved leadsTo moveSeconds hasOutcome wayTo waySeconds
     planText answerLine stateLines stateLine listed runStates decimal decimalFrom auditLine numberBytes tableBytes listTo entries16
+    rateLine rateLines
 computed = (
   refl and refl and refl and refl and refl and refl and refl and refl and refl and refl
       and refl and refl and refl and refl and refl and refl and refl and refl and refl and tt,
@@ -279,7 +287,8 @@ computed = (
   refl and refl and refl and refl and refl and refl and refl and refl
       and refl and refl and refl and refl and refl and refl and refl and refl
       and refl and refl and refl and refl and refl and refl and refl and refl and refl
-      and refl and refl and refl and refl and refl and tt,
+      and refl and refl and refl and refl and refl
+      and refl and refl and refl and refl and tt,
 )
 
 pub cases-hold : All cases

@@ -15,6 +15,7 @@ pub mod Following
 pub mod Carried
 pub mod Answers
 pub mod Lines
+pub mod Sheets
 pub mod TableFiles
 pub mod Cover
 pub mod Buffers

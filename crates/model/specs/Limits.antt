@@ -1,5 +1,6 @@
 -- The numbers of documents 01 and 02, each under one name.
-use Prim.Native.Nat.{ℕ}
+use Prim.Native.Nat.{ℕ, _+_, _-_}
+use mathlib.Core.List.{List, [], _∷_}
 
 -- "count 3", "count 1 to 1,024", "count 0 to 4,096", "count 0 to 8,192"
 abbrev pub settingCount : ℕ
@@ -33,15 +34,27 @@ weightTotal = 1000
 abbrev pub maxSeconds : ℕ
 maxSeconds = 65535
 
--- "Kind 1: melt rate r .., 10 to 1,000, for a 1,000 mm stick; c is 600,000 / r rounded up."
+-- "Kind 1: melt rate r in tenths of a millimetre per minute, 10 to 1,000, for a 1,000 mm stick"
 abbrev pub minRate : ℕ
 minRate = 10
 
 abbrev pub maxRate : ℕ
 maxRate = 1000
 
-abbrev pub stickSeconds : ℕ
-stickSeconds = 600000
+abbrev pub fileStick : ℕ
+fileStick = 1000
+
+-- "a sheet of 991 seconds, for rates 10 to 1,000"
+abbrev pub rateCount : ℕ
+rateCount = maxRate - minRate + 1
+
+-- "600 × length / rate": what a millimetre takes at rate 1
+abbrev pub millimetreSeconds : ℕ
+millimetreSeconds = 600
+
+-- "the stick lengths 250, 500, 550 and 1,000 mm in turn"
+abbrev pub stickLengths : List ℕ
+stickLengths = 250 ∷ 500 ∷ 550 ∷ 1000 ∷ []
 
 -- "row number, 65,535 giving up, 65,534 no pick, also at goals"; the walk list ends in 65,535s
 abbrev pub giveUp : ℕ

@@ -5,7 +5,7 @@ use mathlib.Core.List.{List, [], _∷_}
 use lib.Dec.{eqb}
 use lib.ListN.{getD, drop}
 use Rattle.model.specs.Bytes.{u16At, u32At}
-use Rattle.model.specs.Limits.{stickSeconds}
+use Rattle.model.specs.Limits.{millimetreSeconds, fileStick}
 use Rattle.model.specs.Problem.{Problem, Outcome}
 use Rattle.model.specs.Search.{sumTo}
 
@@ -60,9 +60,13 @@ outcomeCountOf f r = getD f (rowAt f r + 1) 0
 abbrev pub costNumberOf : List ℕ → ℕ → ℕ
 costNumberOf f r = u16At f (rowAt f r + 2)
 
--- "c is 600,000 / r rounded up": 700 is 858
+-- "600 × length / rate rounded up", the length in millimetres: 250 at rate 700 is 215
+unfoldable pub lengthSeconds : ℕ → ℕ → ℕ
+lengthSeconds mm r = (millimetreSeconds * mm + (r - 1)) / r
+
+-- "for a 1,000 mm stick; c is 600,000 / r rounded up": 700 is 858
 unfoldable pub rateSeconds : ℕ → ℕ
-rateSeconds r = (stickSeconds + (r - 1)) / r
+rateSeconds r = lengthSeconds fileStick r
 
 -- "Kind 0: c seconds. Kind 1: melt rate r"
 unfoldable pub secondsOn : Bool → ℕ → ℕ

@@ -25,6 +25,13 @@ pub const MIN_RATE: u32 = 10;
 
 pub const MAX_RATE: u32 = 1000;
 
+// What a millimetre takes at rate 1, and the stick lengths of the printed sheets, in millimetres.
+pub const MILLIMETRE_SECONDS: u64 = 600;
+
+pub const STICKS: usize = 4;
+
+pub const STICK_LENGTHS: [u32; STICKS] = [250, 500, 550, 1000];
+
 // Picks that are no rows, and the end of a walk list.
 pub const GIVE_UP: u16 = 65535;
 

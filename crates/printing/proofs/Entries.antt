@@ -9,7 +9,7 @@ use lib.Seq.{take-suc, take-suc-set, take-all, drop-set-lt}
 use Rattle.model.specs.TableFiles.{numberBytes, tableBytes, listTo}
 use Rattle.guarantee.specs.TableFiles.{list-length, list-front}
 use Rattle.model.specs.Buffers.{Holds}
-use Rattle.printing.proofs.Putting.{further, more, stands}
+use Rattle.printing.proofs.Putting.{further}
 
 -- bytes
 
@@ -24,31 +24,21 @@ bytes-one : (width x : ℕ) → tableBytes width (x ∷ []) ≡ numberBytes widt
 unfolding tableBytes
 bytes-one width x = append-nil (numberBytes width x)
 
--- the loop that puts the bytes of the first i entries of a table
-pub record Tabled (width : ℕ) (table out₀ out : List ℕ) (to i : ℕ) : Type 0 where
-  pub there : i ≤ length table
-  pub put : Holds out₀ out to (tableBytes width (take i table))
+-- the bytes of no entries, of one more, and of all
+pub no-bytes : (width : ℕ) → tableBytes width [] ≡ []
+unfolding tableBytes
+no-bytes width = refl
 
-module _ {width : ℕ} {table out₀ : List ℕ} where
-  pub bytes-start : Tabled width table out₀ out₀ 0 0
-  unfolding tableBytes
-  bytes-start = record { there = omega arith; put = stands out₀ 0 (omega arith) }
+module _ (width : ℕ) (table : List ℕ) where
+  pub bytes-next
+      : (i : ℕ) → i < length table
+      → tableBytes width (take (i + 1) table) ≡ tableBytes width (take i table) ++ numberBytes width (getD table i 0)
+  bytes-next i l =
+      let x = getD table i 0 in
+      rw (add-one i, take-suc table i 0 l, bytes-append width (take i table) (x ∷ []), bytes-one width x) refl
 
-  module _ {out : List ℕ} {to i : ℕ} (h : Tabled width table out₀ out to i) where
-    pub bytes-go-on
-        : {out′ : List ℕ} {to′ : ℕ} → i < length table → Holds out out′ to′ (take to out ++ numberBytes width (getD table i 0))
-        → Tabled width table out₀ out′ to′ (i + 1)
-    bytes-go-on l k =
-        let x = getD table i 0 in
-        record {
-          there = omega arith;
-          put =
-              rw (add-one i, take-suc table i 0 l, bytes-append width (take i table) (x ∷ []), bytes-one width x)
-              (more (numberBytes width x) (h .put) k);
-        }
-
-    pub bytes-end : length table ≤ i → Holds out₀ out to (tableBytes width table)
-    bytes-end l = rw (take-all i table l) at (h .put)
+  pub bytes-all : tableBytes width (take (length table) table) ≡ tableBytes width table
+  bytes-all = ap (tableBytes width) (take-all (length table) table (omega arith))
 
 -- entries
 

@@ -4,6 +4,7 @@ use mathlib.Core.Path.{_≡_, refl}
 use Prim.Native.Nat.{ℕ, zero, suc, _+_, _*_, _/_, _%_, _^_, _≤_, _<_}
 use native.Mathlib.Omega.{arith}
 use native.Mathlib.Nat.{pow-suc}
+use native.Mathlib.Numerals.{add-one}
 use mathlib.Core.Bool.{Bool, true, false}
 use mathlib.Core.List.{List, [], _∷_, _++_}
 use lib.Dec.{ltb, eqb}
@@ -11,13 +12,19 @@ use lib.IntN.{ℤ, pos, negsuc}
 use lib.ListN.{length, getD, length-append}
 use lib.Signed.{mag}
 use borrow.Author.Tests.{ltb-false}
-use Rattle.model.specs.Limits.{giveUp, maxStates, weightTotal}
+use Rattle.model.specs.Limits.{giveUp, maxStates, weightTotal, maxSeconds}
+use Rattle.model.specs.Limits.{minRate, maxRate, rateCount, fileStick, stickLengths}
 use Rattle.model.specs.Lines.{codes, decimalOn, decimalFrom, decimal, blankNumber, blankSigned, answerLine, auditLine, pickOn, lineOn}
 use Rattle.model.specs.Lines.{listed, stateLine, stateLines, runText}
+use Rattle.model.specs.Sections.{lengthSeconds}
+use Rattle.model.specs.Sheets.{rateLine, rateLines, sheetText, sheetsTo, allSheets}
 use Rattle.model.specs.Audit.{Audited, accepted}
 use Rattle.model.specs.Solution.{Answer, solved, spent, refused}
 use Rattle.model.specs.Buffers.{lineMost, stateMost}
+use Rattle.guarantee.specs.Rates.{seconds-high}
 use Rattle.printing.specs.Texts.{Brief}
+use Rattle.printing.proofs.Listing.{no-lines, lines-next}
+use Rattle.printing.proofs.Sheeting.{no-rates, rates-next, no-sheets, sheets-next}
 use Rattle.printing.proofs.Widths.{bits16, bits32, bits63, bits64}
 
 digits-most : (fuel k n : ℕ) → n < 10 ^ suc k → length (decimalFrom fuel n) ≤ suc k
@@ -116,6 +123,16 @@ state-most s v r m p q w low =
     (omega (arith, decimal-most 9 v (omega arith))) (pick-most (eqb r giveUp) r w))
     (omega (arith, decimal-most 2 m (omega arith))) (omega arith)
 
+-- a text of n parts is no longer than they are
+parts-most
+    : (text part : ℕ → List ℕ) (m : ℕ) → text 0 ≡ [] → ((k : ℕ) → text (k + 1) ≡ text k ++ part k) → (n : ℕ)
+    → ((k : ℕ) → k < n → length (part k) ≤ m) → length (text n) ≤ m * n
+parts-most text part m none next zero most = rw none (omega arith)
+parts-most text part m none next (suc n) most =
+    let e : length (text (suc n)) ≡ length (text n ++ part n) = rw (← add-one n, next n) refl in
+    let rest = parts-most text part m none next n (λ k l. most k (omega arith)) in
+    omega (arith, e, length-append (text n) (part n), rest, most n (omega arith))
+
 line-most : (b : Bool) (line : List ℕ) (n : ℕ) → length line ≤ n → length (lineOn b line) ≤ n
 line-most true line n h = h
 line-most false line n h = omega arith
@@ -123,19 +140,44 @@ line-most false line n h = omega arith
 module _ (values picks : List ℕ) (remainder : ℕ → ℕ) (walk : List ℕ) (values-fit : (j : ℕ) → getD values j 0 < bits32)
     (picks-fit : (j : ℕ) → getD picks j 0 < bits16) where
   lines-most
-      : (k : ℕ) → k ≤ maxStates → ((j : ℕ) → j < k → remainder j < weightTotal)
-      → length (stateLines values picks remainder walk k) ≤ stateMost * k
-  unfolding stateLines
-  lines-most zero h low = omega arith
-  lines-most (suc k) h low =
-      let line = stateLine k (getD values k 0) (getD picks k 0) (remainder k) in
-      let most = state-most k _ _ _ (omega arith) (values-fit k) (picks-fit k) (low k (omega arith)) in
-      let short = line-most (listed k walk) line stateMost most in
-      let rest = lines-most k (omega arith) (λ j l. low j (omega arith)) in
-      omega (arith, length-append (stateLines values picks remainder walk k) (lineOn (listed k walk) line), rest, short)
+      : (n : ℕ) → n ≤ maxStates → ((j : ℕ) → j < n → remainder j < weightTotal)
+      → length (stateLines values picks remainder walk n) ≤ stateMost * n
+  lines-most n h low =
+      let line : ℕ → List ℕ = λ k. stateLine k (getD values k 0) (getD picks k 0) (remainder k) in
+      parts-most (stateLines values picks remainder walk) (λ k. lineOn (listed k walk) (line k)) stateMost
+      (no-lines values picks remainder walk) (λ k. lines-next values picks remainder walk k refl) n
+      (λ k l. line-most (listed k walk) (line k) stateMost (state-most k _ _ _ (omega arith) (values-fit k) (picks-fit k) (low k l)))
 
   pub run-most
       : (a : Answer) (n : ℕ) → length (answerLine a) ≤ lineMost → ((j : ℕ) → j < n → remainder j < weightTotal)
       → Brief (runText a values picks remainder walk n) n
   run-most a n first low h =
       omega (arith, length-append (answerLine a) (stateLines values picks remainder walk n), first, lines-most n h low)
+
+-- the sheets: a rate has at most 4 digits, and the seconds of the stick lengths at most 5
+abbrev pub rateMost : ℕ
+rateMost = 11
+
+rate-most : (rate seconds : ℕ) → rate ≤ maxRate → seconds ≤ maxSeconds → length (rateLine rate seconds) ≤ rateMost
+unfolding rateLine
+rate-most rate seconds p q =
+    two-most (decimal rate) (blankNumber seconds) (codes "\n") 4 6 1 (decimal-most 3 rate (omega arith))
+    (omega (arith, decimal-most 4 seconds (omega arith))) (omega arith)
+
+sheet-most : (mm : ℕ) → mm ≤ fileStick → length (sheetText mm) ≤ rateMost * rateCount
+sheet-most mm short =
+    parts-most (rateLines (lengthSeconds mm)) (λ k. rateLine (minRate + k) (lengthSeconds mm (minRate + k))) rateMost
+    (no-rates (lengthSeconds mm)) (λ k. rates-next (lengthSeconds mm) k refl) rateCount
+    (λ k l. rate-most (minRate + k) _ (omega arith) (seconds-high mm (minRate + k) short (omega arith)))
+
+stick-short : (i : ℕ) → getD stickLengths i 0 ≤ fileStick
+stick-short zero = omega arith
+stick-short (suc zero) = omega arith
+stick-short (suc (suc zero)) = omega arith
+stick-short (suc (suc (suc zero))) = omega arith
+stick-short (suc (suc (suc (suc i)))) = omega arith
+
+pub sheets-most : length allSheets ≤ rateMost * rateCount * length stickLengths
+sheets-most =
+    parts-most (sheetsTo stickLengths) (λ i. sheetText (getD stickLengths i 0)) (rateMost * rateCount) (no-sheets stickLengths)
+    (sheets-next stickLengths) (length stickLengths) (λ i l. sheet-most _ (stick-short i))

@@ -4,5 +4,6 @@ pub mod Putting
 pub mod Digits
 pub mod Signed
 pub mod Listing
+pub mod Sheeting
 pub mod Entries
 pub mod Lengths

@@ -4,7 +4,7 @@ use Prim.Native.Nat.{ℕ, _+_, _≤_, _<_}
 use native.Mathlib.Omega.{arith}
 use native.Mathlib.Numerals.{add-one}
 use mathlib.Core.Bool.{Bool, true, false, _||_, or-true, or-false}
-use mathlib.Core.List.{List, _++_, append-nil}
+use mathlib.Core.List.{List, [], _++_, append-nil}
 use lib.Dec.{eqb}
 use lib.ListN.{length, getD, set, take, drop, replicate, drop-of-length-le}
 use lib.Seq.{drop-cons}
@@ -48,40 +48,17 @@ module _ (walk marks : List ℕ) (k : ℕ) (h : Marking walk marks k) where
   pub marks-end : length walk ≤ k → (s : ℕ) → s < maxStates → eqb (getD marks s 0) 1 ≡ listed s walk
   marks-end l s b = sym (h s b ∙ rw (listed-end s walk k l) (or-false (eqb (getD marks s 0) 1)))
 
--- one state more
-pub lines-next
-    : (values picks : List ℕ) (remainder : ℕ → ℕ) (walk : List ℕ) (k : ℕ) → stateLines values picks remainder walk (k + 1)
-    ≡ stateLines values picks remainder walk k
-    ++ lineOn (listed k walk) (stateLine k (getD values k 0) (getD picks k 0) (remainder k))
-unfolding stateLines
-lines-next values picks remainder walk k = rw add-one
-
--- the loop over the states: the lines of the first s stand after the front of `out₀`
-pub record Lined (values picks : List ℕ) (remainder : ℕ → ℕ) (walk out₀ : List ℕ) (at : ℕ) (out : List ℕ) (to s : ℕ) : Type 0
-  where
-    pub there : s ≤ length walk
-    pub put : Holds out₀ out to (take at out₀ ++ stateLines values picks remainder walk s)
-
-module _ {values picks : List ℕ} {remainder : ℕ → ℕ} {walk out₀ : List ℕ} {at : ℕ} where
-  pub lines-start : at ≤ length out₀ → Lined values picks remainder walk out₀ at out₀ at 0
+-- the lines of no states, and of one more
+module _ (values picks : List ℕ) (remainder : ℕ → ℕ) (walk : List ℕ) where
+  pub no-lines : stateLines values picks remainder walk 0 ≡ []
   unfolding stateLines
-  lines-start h = record { there = omega arith; put = same (sym (append-nil (take at out₀))) (stands out₀ at h) }
+  no-lines = refl
 
-  module _ {out : List ℕ} {to s : ℕ} (h : Lined values picks remainder walk out₀ at out to s) where
-    pub lines-go-on
-        : {out′ : List ℕ} {to′ : ℕ} {b : Bool} → s < length walk → b ≡ listed s walk
-        → Holds out out′ to′ (take to out ++ lineOn b (stateLine s (getD values s 0) (getD picks s 0) (remainder s)))
-        → Lined values picks remainder walk out₀ at out′ to′ (s + 1)
-    lines-go-on l told k =
-        record {
-          there = omega arith;
-          put =
-              rw (lines-next values picks remainder walk s)
-              (after (take at out₀) (stateLines values picks remainder walk s) _ (h .put) (rw told at k));
-        }
-
-    pub lines-end : length walk ≤ s → Holds out₀ out to (take at out₀ ++ stateLines values picks remainder walk (length walk))
-    lines-end l = let e : s ≡ length walk = omega (arith, h .there) in rw e at (h .put)
+  pub lines-next
+      : (k : ℕ) {b : Bool} → b ≡ listed k walk → stateLines values picks remainder walk (k + 1)
+      ≡ stateLines values picks remainder walk k ++ lineOn b (stateLine k (getD values k 0) (getD picks k 0) (remainder k))
+  unfolding stateLines
+  lines-next k told = rw (told, add-one k) refl
 
 -- the row or `give` of a line
 module _ {out d : List ℕ} {n : ℕ} (at r : ℕ) where

@@ -112,3 +112,23 @@ after x y z h k = same (append-assoc x y z) (more z h k)
 -- a text that fits is not cut
 pub uncut : {before after text : List ℕ} {n : ℕ} → Holds before after n text → length text ≤ length after → take n after ≡ text
 uncut {before} {after} {text} h l = h .front ∙ take-all (length after) text l
+
+-- a loop that puts part after part: k of n parts are put, and the text of so many stands after the front of `out₀`
+pub record Grown (text : ℕ → List ℕ) (n : ℕ) (out₀ : List ℕ) (at : ℕ) (out : List ℕ) (to k : ℕ) : Type 0 where
+  pub there : k ≤ n
+  pub put : Holds out₀ out to (take at out₀ ++ text k)
+
+module _ {text : ℕ → List ℕ} {n : ℕ} {out₀ : List ℕ} {at : ℕ} where
+  pub grown-starts : text 0 ≡ [] → at ≤ length out₀ → Grown text n out₀ at out₀ at 0
+  grown-starts none h =
+      record { there = omega arith; put = same (sym (append-nil (take at out₀)) ∙ ap (λ t. take at out₀ ++ t) (sym none)) (stands out₀ at h) }
+
+  module _ {out : List ℕ} {to k : ℕ} (h : Grown text n out₀ at out to k) where
+    pub grown-goes-on
+        : {out′ : List ℕ} {to′ : ℕ} (part : List ℕ) → k < n → text (k + 1) ≡ text k ++ part → Holds out out′ to′ (take to out ++ part)
+        → Grown text n out₀ at out′ to′ (k + 1)
+    grown-goes-on part l next g =
+        record { there = omega arith; put = rw next (after (take at out₀) (text k) part (h .put) g) }
+
+    pub grown-ends : n ≤ k → Holds out₀ out to (take at out₀ ++ text n)
+    grown-ends l = let e : k ≡ n = omega (arith, h .there) in rw e at (h .put)

@@ -2,5 +2,6 @@
 // rest of the buffer stays.
 mod decimals;
 pub mod lines;
+pub mod sheets;
 pub mod table_files;
 pub mod text;

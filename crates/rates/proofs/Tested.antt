@@ -5,8 +5,10 @@ use native.Mathlib.Omega.{arith}
 use mathlib.Core.Bool.{true}
 use mathlib.Core.List.{List}
 use lib.ListN.{length}
-use Rattle.model.specs.Limits.{minRate, maxRate}
+use Rattle.model.specs.Limits.{minRate, maxRate, fileStick}
 use Rattle.model.specs.Sections.{rateSeconds}
+use Rattle.model.specs.Sheets.{sheetText, tableText}
+use Rattle.guarantee.specs.Guarantee.{sheet-is-the-table}
 use Rattle.guarantee.specs.Tables.{tabulates, tabulated}
 use Rattle.rates.specs.Sheet.{RateSheet}
 
@@ -16,3 +18,7 @@ sheet-tested l long test =
       keeps = λ rate low high.
           tabulated rateSeconds minRate l test (rate - minRate) (omega arith) ∙ ap rateSeconds (omega arith);
     }
+
+-- and the sheet's text is the one that is printed for the file's length
+pub and-printed : {l : List ℕ} → RateSheet l → RateSheet l × (tableText l ≡ sheetText fileStick)
+and-printed {l} sheet = (sheet, sheet-is-the-table l (sheet .keeps))

@@ -10,8 +10,9 @@ use borrow.Author.Tests.{le-ltb}
 use lib.Dec.{eqb, ltb}
 use lib.ListN.{length, getD, drop}
 use Rattle.model.specs.Bytes.{u16At}
-use Rattle.model.specs.Limits.{weightTotal, maxRows, maxSeconds, stickSeconds, ticksPerSecond, valueBound}
-use Rattle.model.specs.Sections.{problemOf, rateSeconds, secondsOn, rowAt, kindOf, costNumberOf, outcomeAt, outcomeCountOf}
+use Rattle.model.specs.Limits.{weightTotal, maxRows, maxSeconds, fileStick, millimetreSeconds, ticksPerSecond, valueBound}
+use Rattle.model.specs.Sections.{problemOf, lengthSeconds, rateSeconds, secondsOn, rowAt, kindOf, costNumberOf, outcomeAt}
+use Rattle.model.specs.Sections.{outcomeCountOf}
 use Rattle.model.specs.Value.{weightedSum, rowValue, rowRemainder}
 use Rattle.guarantee.specs.TableFiles.{u16-front}
 use Rattle.reading.specs.Ready.{Ready, RowReady, SumThere}
@@ -25,12 +26,12 @@ product-high a b = omega (arith, mul-le-mul a b)
 
 -- a cost number of two bytes gives at most this many seconds, whatever its kind
 abbrev secondsBound : ℕ
-secondsBound = stickSeconds + maxSeconds
+secondsBound = millimetreSeconds * fileStick + maxSeconds
 
 seconds-high : (b : Bool) (n : ℕ) → n < shortBound → secondsOn b n ≤ secondsBound
-unfolding secondsOn rateSeconds
+unfolding secondsOn rateSeconds lengthSeconds
 seconds-high true n h = omega arith
-seconds-high false n h = omega (arith, div-le-self (stickSeconds + (n - 1)) n)
+seconds-high false n h = omega (arith, div-le-self (millimetreSeconds * fileStick + (n - 1)) n)
 
 pub cost-bounded : (f : List ℕ) → ((i : ℕ) → getD f i 0 < byteBound) → (r : ℕ) → problemOf f .cost r ≤ secondsBound
 unfolding problemOf u16At

@@ -1,7 +1,7 @@
 //! Tries the programs on names that cannot be read or written, and on too few and too many of them:
 //! there is a message on standard error, and no table that is not whole.
 //!
-//! `compare_names [plan] [audit]`
+//! `compare_names [plan] [audit] [sheet]`
 
 use comparisons::examples::file_p;
 use comparisons::harness::Tally;
@@ -28,6 +28,7 @@ const FULL_DISK: &str = "trap '' XFSZ; ulimit -f \"$1\"; shift; exec \"$@\"";
 struct Room {
     plan: Program,
     audit: Program,
+    sheet: Program,
     folder: Folder,
     tally: Tally,
 }
@@ -44,7 +45,8 @@ impl Room {
             std::fs::create_dir(folder.path(name)).expect("a folder can be made");
         }
         let (plan, audit) = (Program::named(1, "plan"), Program::named(2, "audit"));
-        Room { plan, audit, folder, tally: Tally::default() }
+        let sheet = Program::named(3, "sheet");
+        Room { plan, audit, sheet, folder, tally: Tally::default() }
     }
 
     /// Holds that the folder is as it was.
@@ -199,6 +201,11 @@ impl Room {
                 let said = self.audit.run(&self.folder, &names[..count], &[]);
                 let messages = "audit: give three names: FILE VALUES PICKS\n".into();
                 self.tally.hold("audit", &said, &Said { output: String::new(), messages });
+            }
+            if count != 0 {
+                let said = self.sheet.run(&self.folder, &names[..count], &[]);
+                let messages = "sheet: give no names\n".into();
+                self.tally.hold("sheet", &said, &Said { output: String::new(), messages });
             }
             self.hold_folder();
         }

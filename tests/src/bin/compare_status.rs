@@ -1,8 +1,8 @@
 //! Tries the start scripts: what a program writes they pass on to the byte, whatever the outputs are,
-//! and their exit status tells what it was. 0 is solved or accepted, 1 refused, 3 spent, and 2 says
-//! that something could not be read, written or built.
+//! and their exit status tells what it was. 0 is solved, accepted or the sheets, 1 refused, 3 spent, and
+//! 2 says that something could not be read, written or built.
 //!
-//! `compare_status [plan] [audit]`, the start scripts
+//! `compare_status [plan] [audit] [sheet]`, the start scripts
 
 use comparisons::encode::Draft;
 use comparisons::examples::{file_p, stick};
@@ -12,6 +12,7 @@ use comparisons::listing::{plan_lines, planned};
 use comparisons::made::{at_limits, deep_chain, endless};
 use comparisons::programs::{run_to_end, start, Folder, Program};
 use comparisons::random::Random;
+use comparisons::sheets::sheets;
 use comparisons::table_files::{picks_bytes, values_bytes};
 use std::ffi::{OsStr, OsString};
 use std::io::Write;
@@ -68,6 +69,7 @@ impl Pair {
 struct Room {
     plan: Pair,
     audit: Pair,
+    sheet: Pair,
     tally: Tally,
 }
 
@@ -180,6 +182,16 @@ impl Room {
         }
     }
 
+    /// The sheets, whole and from the paper's numbers; a name is one too many.
+    fn compare_sheets(&mut self) {
+        self.compare(|r| &r.sheet, WHOLE, &[""; 0], &[], 0);
+        let (printed, _) = self.run(self.sheet.script.path(), WHOLE, &[""; 0], &[]);
+        self.tally.hold("the sheets", &printed.output[..], sheets().as_bytes());
+        for names in [&["250"][..], &[""], &["250", "500"]] {
+            self.compare(|r| &r.sheet, WHOLE, names, &[], 2);
+        }
+    }
+
     /// Inputs and outputs that cannot be read or written. What goes well with no message, and is
     /// printed, has its own status also where messages would be lost.
     fn compare_ways(&mut self) {
@@ -196,6 +208,8 @@ impl Room {
             let names = ["file", "values", "picks"];
             self.compare(|r| &r.audit, way, &names, &[], if lost { 2 } else { 0 });
             self.compare(|r| &r.audit, way, &["file"], &[], 2);
+            self.compare(|r| &r.sheet, way, &[""; 0], &[], if lost { 2 } else { 0 });
+            self.compare(|r| &r.sheet, way, &["250"], &[], 2);
         }
     }
 
@@ -262,10 +276,12 @@ impl Room {
 
 fn main() -> ExitCode {
     let (plan, audit) = (Pair::named(1, "plan"), Pair::named(2, "audit"));
-    let mut room = Room { plan, audit, tally: Tally::asking(&LEAST) };
+    let sheet = Pair::named(3, "sheet");
+    let mut room = Room { plan, audit, sheet, tally: Tally::asking(&LEAST) };
     room.compare_plans();
     room.compare_unwritable();
     room.compare_audits();
+    room.compare_sheets();
     room.compare_ways();
     room.compare_unread();
     room.compare_builds();

@@ -2,7 +2,7 @@
 //! rows, 8,192 outcomes. The library runs on threads with smaller and smaller stacks, each in a
 //! process of its own; the programs run under `ulimit -s`, and under `ulimit -v` for all their memory.
 //!
-//! `measure_stack [plan] [audit]`
+//! `measure_stack [plan] [audit] [sheet]`
 
 use comparisons::audit::Verdict;
 use comparisons::follower::Record;
@@ -11,6 +11,7 @@ use comparisons::limits::PLAN_ROUNDS;
 use comparisons::listing::{audit_line, planned};
 use comparisons::made::deepest;
 use comparisons::programs::{run, said, start, Folder, Program};
+use comparisons::sheets::sheets;
 use comparisons::solver::OwnedTables;
 use comparisons::table_files::{picks_bytes, values_bytes};
 use std::process::Command;
@@ -137,4 +138,7 @@ fn main() {
     command.args(["file", "values", "picks"]).current_dir(folder.path(""));
     let line = audit_line(Verdict::Accepted { least_cost: 1_000 });
     measure("audit", &command, &[], &line);
+    let mut command = Command::new(Program::named(3, "sheet").path());
+    command.current_dir(folder.path(""));
+    measure("sheet", &command, &[], &sheets());
 }

@@ -3,14 +3,16 @@
 use Prim.Native.Nat.{_-_}
 use lib.ListN.{length}
 use Rattle.model.specs.Value.{byState}
-use Rattle.printing.proofs.Listing.{Lined, lines-start, lines-go-on, lines-end}
+use Rattle.model.specs.Lines.{stateLines}
+use Rattle.printing.proofs.Listing.{no-lines, lines-next}
+use Rattle.printing.proofs.Putting.{grown-starts, grown-goes-on, grown-ends, Grown}
 use borrow.Author.Needs.{needs}
 use native.Mathlib.Omega.{arith}
 use Rattle.printing.proofs.lines.put_states.Statement.{statement}
 use Rattle.printing.proofs.lines.put_states.Tie as tie
 
 abbrev Inv-loop : tie.InvT-loop
-Inv-loop out₀ at values picks remainders walk marks to₀ s₀ out to s = Lined values picks (byState remainders) walk out₀ at out to s
+Inv-loop out₀ at values picks remainders walk marks to₀ s₀ out to s = Grown (stateLines values picks (byState remainders) walk) (length walk) out₀ at out to s
 
 abbrev μ-loop : tie.MeasureT-loop
 μ-loop out₀ at values picks remainders walk marks to₀ s₀ out to s = length walk - s
@@ -19,7 +21,7 @@ marks-of-requires : tie.Need-marks-of-requires Inv-loop μ-loop
 marks-of-requires c κs = search needs
 
 loop-holds : tie.Need-loop-holds Inv-loop μ-loop
-loop-holds c = lines-start (c .before .before .before .before .before .before .pre .0)
+loop-holds c = grown-starts (no-lines _ _ _ _) (c .before .before .before .before .before .before .pre .0)
 
 array-read-put-marked : tie.Need-array-read-put-marked Inv-loop μ-loop
 array-read-put-marked c = omega (arith, c .before .loop-test .taken, c .before .before .before .before .before .before .before .before .before .pre .1 .states)
@@ -40,14 +42,15 @@ loop-less c = search needs
 
 loop-again : tie.Need-loop-again Inv-loop μ-loop
 loop-again c =
-    lines-go-on (c .before .before .before .before .before .loop .inv) (c .before .before .before .before .loop-test .taken)
-    (c .before .before .before .before .before .before .marks-of .ensures .tells (c .before .before .before .before .before .loop .s) (omega (arith, c .before .before .before .before .loop-test .taken, c .before .before .before .before .before .before .before .before .before .before .before .before .pre .1 .states))) (c .before .before .put-marked .ensures)
+    grown-goes-on (c .before .before .before .before .before .loop .inv) _ (c .before .before .before .before .loop-test .taken)
+    (lines-next _ _ _ _ _ (c .before .before .before .before .before .before .marks-of .ensures .tells (c .before .before .before .before .before .loop .s) (omega (arith, c .before .before .before .before .loop-test .taken, c .before .before .before .before .before .before .before .before .before .before .before .before .pre .1 .states))))
+    (c .before .before .put-marked .ensures)
 
 same-length : tie.Need-same-length Inv-loop μ-loop
 same-length c = c .before .loop .inv .put .long
 
 returns : tie.Need-returns Inv-loop μ-loop
-returns c = lines-end (c .before .loop .inv) (c .loop-test .left)
+returns c = grown-ends (c .before .loop .inv) (c .loop-test .left)
 
 pub put-states-spec : {M : Type 1} → statement M
 put-states-spec =

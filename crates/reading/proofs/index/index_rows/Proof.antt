@@ -73,7 +73,7 @@ u16-at-requires c κs = omega arith
 
 ticks-requires : tie.Need-ticks-requires Inv-loop μ-loop
 ticks-requires c κs = (
-  c .before .before .before .before .before .rate-sheet .ensures,
+  c .before .before .before .before .before .rate-sheet .ensures .0,
   rw (c .before .byte-at .ensures .0, c .u16-at .ensures .0) (row-cost _ _ _ (c .before .before .before .before .before .before .before .pre .3 (c .before .before .before .before .loop .r) (c .before .before .before .loop-test .taken))),
 )
 
