@@ -5,15 +5,17 @@ use std::path::PathBuf;
 
 /// The programs that call the product's C interface, through `library.rs`. Each links as soon as the
 /// archive has the functions that it calls.
-const CALLERS: [&str; 9] = [
+const CALLERS: [&str; 11] = [
     "compare_reading",
     "compare_rates",
     "compare_solving",
     "compare_audit",
     "compare_following",
+    "compare_exchange",
     "bench",
     "bench_checking",
     "bench_following",
+    "bench_exchanging",
     "measure_stack",
 ];
 

@@ -16,6 +16,7 @@ enum {
     CUULIPSO_SPENT = 2,     /* answer: rounds, evaluations, 0 */
     CUULIPSO_PASSED = 3,    /* of a check, answer: 0, 0, 0; of an audit: accepted, answer: C, 0, 0 */
     CUULIPSO_DONE = 3,      /* of an opening or a report, answer: state, moves, seconds of the record after it */
+    CUULIPSO_WRITTEN = 3,   /* of a set form, answer: its length, 0, 0 */
     CUULIPSO_TOO_SHORT = 4  /* the answer's table has fewer than 3 entries; nothing was done */
 };
 
@@ -48,6 +49,15 @@ uint8_t cuulipso_audit(const uint8_t *file, size_t file_length,
                        const uint32_t *values, size_t values_length,
                        const uint16_t *picks, size_t picks_length,
                        int64_t *answer, size_t answer_length);
+
+/* Writes a problem file's set form at the front of out: the same problem with each row's outcomes by rising successor, repeats added
+ * together, and all costs in seconds. Two accepted files have equal set forms exactly when they say the same problem: the same settings,
+ * estimates, goals, number of rows at each state and row costs, and the same total chance from each row to each state. After questions
+ * 1 to 11 the call meets 23, place 0, where out is shorter than the form; an output as long as the file is always enough. The rest of
+ * out stays, and on a refusal nothing is written there. */
+uint8_t cuulipso_set_form(const uint8_t *file, size_t file_length,
+                          uint8_t *out, size_t out_length,
+                          uint64_t *answer, size_t answer_length);
 
 /* A follower's record of a shift: the state it is in, the moves made, the seconds spent, and the mark that giving up sets: 0 clear,
  * anything else set. It is the caller's, and is lent as a pointer to one that overlaps no table. */

@@ -7,7 +7,7 @@ use std::fmt::Debug;
 use std::process::ExitCode;
 
 /// One past the highest question of document 01 and of the requests that are done.
-const QUESTIONS: usize = 23;
+const QUESTIONS: usize = 24;
 /// Differences beyond these are counted and not printed.
 const MOST_PRINTED: u64 = 10;
 
@@ -75,7 +75,7 @@ impl Tally {
 
     /// Prints the counts. Success where nothing differed, each question of the list was met at least
     /// so often, and there are as many of everything as the tally asks for.
-    pub fn close(&self, questions: std::ops::RangeInclusive<usize>, least: u64) -> ExitCode {
+    pub fn close(&self, questions: impl IntoIterator<Item = usize>, least: u64) -> ExitCode {
         for (name, count) in &self.named {
             match self.least.iter().find(|(known, _)| known == name) {
                 Some((_, least)) => println!("{name}: {count} (at least {least})"),
@@ -85,7 +85,8 @@ impl Tally {
         for (question, &count) in self.met.iter().enumerate().filter(|(_, &count)| count > 0) {
             println!("question {question}: {count}");
         }
-        let rare: Vec<usize> = questions.filter(|&question| self.met[question] < least).collect();
+        let mut rare: Vec<usize> = questions.into_iter().collect();
+        rare.retain(|&question| self.met[question] < least);
         if !rare.is_empty() {
             println!("met fewer than {least} times: questions {rare:?}");
         }

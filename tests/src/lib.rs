@@ -1,5 +1,5 @@
 //! Documents 01 and 02 in Rust, written from the papers and apart from the product: a reader, a solver,
-//! an audit and a follower, with made-up problem files to compare the product on.
+//! an audit, a follower and the set form, with made-up problem files to compare the product on.
 //!
 //! The programs under `src/bin` hold the product's answers against these.
 
@@ -18,12 +18,16 @@ pub mod plain;
 pub mod problem;
 pub mod programs;
 pub mod proposal;
+pub mod quick_form;
 pub mod random;
 pub mod rate_table;
+pub mod set_form;
 pub mod sheets;
 pub mod solver;
 pub mod table_files;
 pub mod timing;
+pub mod variants;
+pub mod wide;
 pub mod written;
 
 #[cfg(test)]

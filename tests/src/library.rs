@@ -3,6 +3,7 @@
 //! The functions are inlined into the programs that call them, and only those ask for the archive:
 //! `build.rs` names them.
 
+use crate::audit::Verdict;
 use crate::follower::{Followed, Record};
 use crate::problem::Problem;
 use crate::solver::{Answer, Tables};
@@ -69,12 +70,20 @@ extern "C" {
         answer: *mut i64,
         answer_length: usize,
     ) -> u8;
+    fn cuulipso_set_form(
+        file: *const u8,
+        file_length: usize,
+        out: *mut u8,
+        out_length: usize,
+        answer: *mut u64,
+        answer_length: usize,
+    ) -> u8;
 }
 
 /// The entries that an answer needs.
 pub const ANSWER: usize = 3;
 
-/// The code of a file, a run, an audit, an opening or a report that is refused.
+/// The code of a file, a run, an audit, an opening, a report or a set form that is refused.
 pub const REFUSED: u8 = 0;
 /// The code of a solved run.
 pub const SOLVED: u8 = 1;
@@ -86,6 +95,8 @@ pub const PASSED: u8 = 3;
 pub const ACCEPTED: u8 = 3;
 /// The code of an opening or a report that is done.
 pub const DONE: u8 = 3;
+/// The code of a set form that is written.
+pub const WRITTEN: u8 = 3;
 /// The code of an answer lent too short.
 pub const TOO_SHORT: u8 = 4;
 
@@ -193,6 +204,21 @@ pub fn report(
     }
 }
 
+/// The product's set form of a file, written at the front of what is lent.
+#[inline]
+pub fn set_form(file: &[u8], out: &mut [u8], answer: &mut [u64]) -> u8 {
+    unsafe {
+        cuulipso_set_form(
+            file.as_ptr(),
+            file.len(),
+            out.as_mut_ptr(),
+            out.len(),
+            answer.as_mut_ptr(),
+            answer.len(),
+        )
+    }
+}
+
 /// The code and the answer that the paper asks of a check.
 pub fn asked_of_check(file: &[u8]) -> (u8, [u64; ANSWER]) {
     match Problem::read(file) {
@@ -209,6 +235,16 @@ pub fn asked_of_run(answer: Answer) -> (u8, [u64; ANSWER]) {
         }
         Answer::Spent { rounds, evaluations } => (SPENT, [rounds, evaluations, 0]),
         Answer::Refused(refusal) => (REFUSED, [refusal.question, refusal.place, 0]),
+    }
+}
+
+/// The code and the answer that the paper asks of an audit.
+pub fn asked_of_audit(verdict: Verdict) -> (u8, [i64; ANSWER]) {
+    match verdict {
+        Verdict::Accepted { least_cost } => (ACCEPTED, [i64::from(least_cost), 0, 0]),
+        Verdict::Refused { question, place, excess } => {
+            (REFUSED, [question as i64, place as i64, excess])
+        }
     }
 }
 

@@ -3,6 +3,7 @@ pub mod shift;
 
 use model::AuditAnswer;
 use model::FileAnswer;
+use model::FormAnswer;
 use model::SolveAnswer;
 ghost use mathlib.Core.Path.{_≡_};
 ghost use Prim.Native.Nat.{_≤_};
@@ -10,9 +11,10 @@ ghost use lib.ListN.{length};
 ghost use Rattle.model.specs.Answers.{verdictCarries, auditedCarries};
 ghost use Rattle.model.specs.Audit.{audit};
 ghost use Rattle.model.specs.Buffers.{copied};
-ghost use Rattle.model.specs.Interface.{Written, HandsBack, plainNumbers, signedNumbers, three};
+ghost use Rattle.model.specs.Interface.{Written, HandsBack, HandsOut, plainNumbers, signedNumbers, three};
 ghost use Rattle.model.specs.Lookup.{rowsOf};
 ghost use Rattle.model.specs.Questions.{fileQuestions};
+ghost use Rattle.model.specs.SetForm.{exchange};
 ghost use Rattle.model.specs.Solution.{tables, solution};
 
 // Writes three numbers to the front of a table that has room for them.
@@ -159,6 +161,31 @@ pub extern "C" fn cuulipso_audit(
             excess,
         } => {
             put3_signed(answer, question as i64, place as i64, excess);
+            0
+        }
+    }
+}
+
+// Writes the set form of the file at the front of `out`: 3, with answer length, 0, 0; 0 refused, with question, place, 0, and `out`
+// stays; 4 where `answer` has fewer than 3 entries, and then nothing is written. Bytes of `out` beyond the form stay.
+#[no_mangle]
+pub extern "C" fn cuulipso_set_form(file: &[u8], out: &mut [u8], answer: &mut [u64]) -> u8
+    ensures { λ r.
+        ⌜ HandsOut
+        (exchange (now (file .entry)) (now (out .entry)))
+        (now (out .entry)) (now (out .exit)) (now (answer .entry)) (now (answer .exit)) r ⌝ }
+{
+    if answer.len() < 3 {
+        return 4;
+    }
+    let said = exchanging::set_form(file, out);
+    match said {
+        FormAnswer::Written { length } => {
+            put3(answer, length as u64, 0, 0);
+            3
+        }
+        FormAnswer::Refused { question, place } => {
+            put3(answer, question as u64, place as u64, 0);
             0
         }
     }

@@ -1,25 +1,35 @@
--- Tables that agree on the states have the same audit: no question looks at an entry beyond them.
--- A search depends on its test at the places it asks alone, and question 19 is put only where question 18 said yes.
+-- Problems and tables that agree as far as the audit looks have the same audit: no question looks beyond states and rows.
+-- A search depends on its test at the places it asks alone, and a pick's value and cost count only where question 18 said yes.
 use mathlib.Core.Path.{_≡_, refl, _∙_, ap, ap₂}
 use Prim.Native.Nat.{ℕ, zero, suc, _+_, _-_, _≤_, _<_}
 use native.Mathlib.Omega.{arith}
 use mathlib.Core.Bool.{Bool, true, false, _||_, not, true≢false}
 use mathlib.Core.List.{List}
 use lib.Dec.{leb, eqb}
+use lib.ListN.{getD}
 use lib.IntN.{pos, subℕ}
 use borrow.Author.Tests.{leb-false}
 use Rattle.model.specs.Limits.{giveUp}
 use Rattle.model.specs.Problem.{Problem, giveUpCost, endRow, ownRow}
 use Rattle.model.specs.Value.{rowValue}
-use Rattle.model.specs.Walk.{walk, leastCost, leastTo, pickCost}
+use Rattle.model.specs.Search.{first}
+use Rattle.model.specs.Walk.{walk, at-start, leastCost, leastOn, leastTo, pickCost, pickCostOn}
 use Rattle.model.specs.Questions.{undercutRow, undercutState}
 use Rattle.model.specs.Audit.{Audited, accepted, refused, orElse, pickValue, pickValueOn, boundedOn, unboundedState, open-state}
-use Rattle.model.specs.Audit.{strayState, slackState, tableQuestions}
+use Rattle.model.specs.Audit.{ownPick, strayState, slackState, tableQuestions}
 use Rattle.guarantee.specs.WellFormed.{WellFormed}
 use Rattle.guarantee.specs.Searches.{first-same, first-at, each-yes, implied}
 use Rattle.guarantee.specs.Values.{rowValue-same-states}
-use Rattle.guarantee.specs.Walks.{rows-within, own-row, walk-same}
+use Rattle.guarantee.specs.Walks.{rows-within, own-row, reached-marked, walk-same}
 use Rattle.guarantee.specs.Excess.{undercut-own}
+
+-- the tests of questions 18 and 19
+
+abbrev fits : Problem → (ℕ → ℕ) → List ℕ → ℕ → Bool
+fits p picks marks s = not (open-state p marks s) || ownPick p s (picks s)
+
+abbrev near : Problem → (ℕ → ℕ) → (ℕ → ℕ) → List ℕ → ℕ → Bool
+near p v picks marks s = not (open-state p marks s) || leb (pickValue p v picks s) (v s + p .tolerance - 1)
 
 -- the state at which question 19 stops is open
 slack-open
@@ -27,131 +37,197 @@ slack-open
     → open-state p marks (slackState p v picks marks) ≡ true
 unfolding slackState
 slack-open p v picks marks l =
-    said (open-state p marks (slackState p v picks marks)) _
-    (first-at (λ s. not (open-state p marks s) || leb (pickValue p v picks s) (v s + p .tolerance - 1)) 0 (p .states) (omega arith))
+    said (open-state p marks (slackState p v picks marks)) _ (first-at (near p v picks marks) 0 (p .states) (omega arith))
   where
     said : (a b : Bool) → (not a || b) ≡ false → a ≡ true
     said true b e = refl
     said false b e = absurd (true≢false e)
+
+-- Two problems with two pairs of tables.
+
+-- they agree on states and rows, and on which states their walks mark
+pub record Alike (p q : Problem) (v w picks picks′ : ℕ → ℕ) : Type 0 where
+  pub start : p .start ≡ q .start
+  pub tolerance : p .tolerance ≡ q .tolerance
+  pub penalty : p .penalty ≡ q .penalty
+  pub states : p .states ≡ q .states
+  pub goals : (s : ℕ) → s < p .states → p .goal s ≡ q .goal s
+  pub first-rows : (s : ℕ) → s < p .states → p .firstRow s ≡ q .firstRow s
+  pub row-counts : (s : ℕ) → s < p .states → p .rowCount s ≡ q .rowCount s
+  pub costs : (r : ℕ) → r < p .rows → p .cost r ≡ q .cost r
+  pub row-values : (r : ℕ) → r < p .rows → rowValue p v r ≡ rowValue q w r
+  pub values : (s : ℕ) → s < p .states → v s ≡ w s
+  pub picked : (s : ℕ) → s < p .states → picks s ≡ picks′ s
+  pub marked : (s : ℕ) → s < p .states → getD (walk p picks .marks) s 0 ≡ getD (walk q picks′ .marks) s 0
 
 or-else-same
     : {b b′ : Bool} {r r′ n n′ : Audited} → b ≡ b′ → (b ≡ false → r ≡ r′) → (b ≡ true → n ≡ n′) → orElse b r n ≡ orElse b′ r′ n′
 or-else-same {b = true} e no-same yes-same = rw (← e) (yes-same refl)
 or-else-same {b = false} e no-same yes-same = rw (← e) (no-same refl)
 
-module _ (p : Problem) (formed : WellFormed p) (v w picks picks′ : ℕ → ℕ) (values-agree : (s : ℕ) → s < p .states → v s ≡ w s)
-    (picks-agree : (s : ℕ) → s < p .states → picks s ≡ picks′ s) where
-  unbounded-same : unboundedState p v ≡ unboundedState p w
+module _ (p q : Problem) (formed : WellFormed p) (v w picks picks′ : ℕ → ℕ) (alike : Alike p q v w picks picks′) where
+  abbrev marks : List ℕ
+  marks = walk p picks .marks
+
+  abbrev marks′ : List ℕ
+  marks′ = walk q picks′ .marks
+
+  unbounded-same : unboundedState p v ≡ unboundedState q w
   unfolding unboundedState
   unbounded-same =
-      first-same (λ s. boundedOn (p .goal s) (giveUpCost p) (v s)) (λ s. boundedOn (p .goal s) (giveUpCost p) (w s)) 0 (p .states)
-      (λ s low high. ap (boundedOn (p .goal s) (giveUpCost p)) (values-agree s (omega arith)))
+      first-same
+      (λ s. boundedOn (p .goal s) (giveUpCost p) (v s))
+      (λ s. boundedOn (q .goal s) (giveUpCost q) (w s))
+      0
+      (p .states)
+      (λ s low high. rw (alike .goals s (omega arith), alike .values s (omega arith), alike .penalty) refl)
+      ∙ ap (first (λ s. boundedOn (q .goal s) (giveUpCost q) (w s)) 0) (alike .states)
 
-  value-same : (r : ℕ) → r < p .rows → rowValue p v r ≡ rowValue p w r
-  value-same = rowValue-same-states p formed v w values-agree
-
-  row-same : (s : ℕ) → s < p .states → undercutRow p v s ≡ undercutRow p w s
+  row-same : (s : ℕ) → s < p .states → undercutRow p v s ≡ undercutRow q w s
   unfolding undercutRow
   row-same s l =
-      first-same (λ r. leb (v s) (rowValue p v r)) (λ r. leb (w s) (rowValue p w r)) (p .firstRow s) (p .rowCount s)
-      (λ r low high. ap₂ leb (values-agree s l) (value-same r (omega (arith, rows-within p formed s l))))
+      first-same (λ r. leb (v s) (rowValue p v r)) (λ r. leb (w s) (rowValue q w r)) (p .firstRow s) (p .rowCount s)
+      (λ r low high. ap₂ leb (alike .values s l) (alike .row-values r (omega (arith, rows-within p formed s l))))
+      ∙ ap₂ (first (λ r. leb (w s) (rowValue q w r))) (alike .first-rows s l) (alike .row-counts s l)
 
-  state-same : undercutState p v ≡ undercutState p w
+  end-same : (s : ℕ) → s < p .states → endRow p s ≡ endRow q s
+  end-same s l = ap₂ _+_ (alike .first-rows s l) (alike .row-counts s l)
+
+  state-same : undercutState p v ≡ undercutState q w
   unfolding undercutState
   state-same =
-      first-same (λ s. leb (endRow p s) (undercutRow p v s)) (λ s. leb (endRow p s) (undercutRow p w s)) 0 (p .states)
-      (λ s low high. ap (leb (endRow p s)) (row-same s (omega arith)))
+      first-same (λ s. leb (endRow p s) (undercutRow p v s)) (λ s. leb (endRow q s) (undercutRow q w s)) 0 (p .states)
+      (λ s low high. ap₂ leb (end-same s (omega arith)) (row-same s (omega arith)))
+      ∙ ap (first (λ s. leb (endRow q s) (undercutRow q w s)) 0) (alike .states)
 
   -- the refusal under question 17
   undercut-same
       : undercutState p v < p .states
       → refused 17 (undercutRow p v (undercutState p v))
       (subℕ (v (undercutState p v)) (rowValue p v (undercutRow p v (undercutState p v))))
-      ≡ refused 17 (undercutRow p w (undercutState p w))
-      (subℕ (w (undercutState p w)) (rowValue p w (undercutRow p w (undercutState p w))))
+      ≡ refused 17 (undercutRow q w (undercutState q w))
+      (subℕ (w (undercutState q w)) (rowValue q w (undercutRow q w (undercutState q w))))
   undercut-same l =
       let s = undercutState p v in
-      let own = value-same (undercutRow p v s) (omega (arith, undercut-own p v l, rows-within p formed s l)) in
+      let own = alike .row-values (undercutRow p v s) (omega (arith, undercut-own p v l, rows-within p formed s l)) in
       let here : refused 17 (undercutRow p v s) (subℕ (v s) (rowValue p v (undercutRow p v s)))
-      ≡ refused 17 (undercutRow p w s) (subℕ (w s) (rowValue p w (undercutRow p w s))) =
-      rw (own, values-agree s l, row-same s l) refl in
-      here ∙ ap (λ x. refused 17 (undercutRow p w x) (subℕ (w x) (rowValue p w (undercutRow p w x)))) state-same
+      ≡ refused 17 (undercutRow q w s) (subℕ (w s) (rowValue q w (undercutRow q w s))) =
+      rw (own, alike .values s l, row-same s l) refl in
+      here ∙ ap (λ x. refused 17 (undercutRow q w x) (subℕ (w x) (rowValue q w (undercutRow q w x)))) state-same
 
-  marks-same : walk p picks .marks ≡ walk p picks′ .marks
-  marks-same = ap (λ t. t .marks) (walk-same p formed picks picks′ picks-agree)
+  open-same : (s : ℕ) → s < p .states → open-state p marks s ≡ open-state q marks′ s
+  open-same s l = rw (alike .goals s l, alike .marked s l) refl
 
-  -- a pick that gives up or is the state's own row
-  abbrev fits : ℕ → ℕ → Bool
-  fits s r = eqb r giveUp || ownRow p s r
+  own-same : (s r : ℕ) → s < p .states → ownPick p s r ≡ ownPick q s r
+  own-same s r l = rw (alike .first-rows s l, alike .row-counts s l) refl
 
-  stray-same : strayState p picks (walk p picks .marks) ≡ strayState p picks′ (walk p picks′ .marks)
+  stray-same : strayState p picks marks ≡ strayState q picks′ marks′
   unfolding strayState
   stray-same =
-      let marks = walk p picks .marks in
-      first-same (λ s. not (open-state p marks s) || fits s (picks s)) (λ s. not (open-state p marks s) || fits s (picks′ s)) 0 (p .states)
-      (λ s low high. ap (λ r. not (open-state p marks s) || fits s r) (picks-agree s (omega arith)))
-      ∙ ap (λ m. strayState p picks′ m) marks-same
-
-  pick-same : (s : ℕ) → s < p .states → fits s (picks s) ≡ true → pickValue p v picks s ≡ pickValue p w picks′ s
-  unfolding pickValue
-  pick-same s l h = rw (← picks-agree s l) (go (eqb (picks s) giveUp) h)
+      first-same (fits p picks marks) (fits q picks′ marks′) 0 (p .states) (λ s low high. at s (omega arith))
+      ∙ ap (first (fits q picks′ marks′) 0) (alike .states)
     where
-      go : (b : Bool) → (b || ownRow p s (picks s)) ≡ true → pickValueOn b p v (picks s) ≡ pickValueOn b p w (picks s)
-      go true e = refl
-      go false e = value-same (picks s) (own-row p formed s (picks s) l e)
+      at : (s : ℕ) → s < p .states → fits p picks marks s ≡ fits q picks′ marks′ s
+      at s l = ap₂ (λ o f. not o || f) (open-same s l) (own-same s (picks s) l ∙ ap (ownPick q s) (alike .picked s l))
+
+  -- a pick that gives up or is the state's own row has one value and one cost
+
+  pick-same : (s : ℕ) → s < p .states → ownPick p s (picks s) ≡ true → pickValue p v picks s ≡ pickValue q w picks′ s
+  unfolding pickValue
+  pick-same s l h = rw (← alike .picked s l) (go (eqb (picks s) giveUp) h)
+    where
+      go : (b : Bool) → (b || ownRow p s (picks s)) ≡ true → pickValueOn b p v (picks s) ≡ pickValueOn b q w (picks s)
+      go true e = rw (alike .penalty) refl
+      go false e = alike .row-values (picks s) (own-row p formed s (picks s) l e)
+
+  cost-same : (s : ℕ) → s < p .states → ownPick p s (picks s) ≡ true → pickCost p picks s ≡ pickCost q picks′ s
+  unfolding pickCost
+  cost-same s l h = rw (← alike .picked s l) (go (eqb (picks s) giveUp) h)
+    where
+      go : (b : Bool) → (b || ownRow p s (picks s)) ≡ true → pickCostOn b p (picks s) ≡ pickCostOn b q (picks s)
+      go true e = rw (alike .penalty) refl
+      go false e = rw (alike .costs (picks s) (own-row p formed s (picks s) l e)) refl
 
   -- where question 18 says yes
-  module _ (straight : leb (p .states) (strayState p picks (walk p picks .marks)) ≡ true) where
-    open-fits : (s : ℕ) → s < p .states → open-state p (walk p picks .marks) s ≡ true → fits s (picks s) ≡ true
+  module _ (straight : leb (p .states) (strayState p picks marks) ≡ true) where
+    open-fits : (s : ℕ) → s < p .states → open-state p marks s ≡ true → ownPick p s (picks s) ≡ true
     unfolding strayState
     open-fits s l o =
-        let marks = walk p picks .marks in
-        implied (open-state p marks s) (fits s (picks s))
-        (each-yes (λ s. not (open-state p marks s) || fits s (picks s)) (p .states) straight s l) o
+        implied (open-state p marks s) (ownPick p s (picks s)) (each-yes (fits p picks marks) (p .states) straight s l) o
 
-    slack-same : slackState p v picks (walk p picks .marks) ≡ slackState p w picks′ (walk p picks′ .marks)
+    slack-same : slackState p v picks marks ≡ slackState q w picks′ marks′
     unfolding slackState
     slack-same =
-        let marks = walk p picks .marks in
-        first-same (λ s. not (open-state p marks s) || leb (pickValue p v picks s) (v s + p .tolerance - 1))
-        (λ s. not (open-state p marks s) || leb (pickValue p w picks′ s) (w s + p .tolerance - 1)) 0 (p .states)
+        first-same (near p v picks marks) (near q w picks′ marks′) 0 (p .states)
         (λ s low high. at s (omega arith) (open-state p marks s) refl)
-        ∙ ap (λ m. slackState p w picks′ m) marks-same
+        ∙ ap (first (near q w picks′ marks′) 0) (alike .states)
       where
-        at : (s : ℕ) → s < p .states → (b : Bool) → open-state p (walk p picks .marks) s ≡ b
-            → (not b || leb (pickValue p v picks s) (v s + p .tolerance - 1))
-            ≡ (not b || leb (pickValue p w picks′ s) (w s + p .tolerance - 1))
-        at s l true o = rw (pick-same s l (open-fits s l o), values-agree s l) refl
-        at s l false o = refl
+        at : (s : ℕ) → s < p .states → (b : Bool) → open-state p marks s ≡ b → near p v picks marks s ≡ near q w picks′ marks′ s
+        at s l true o =
+            rw (← open-same s l, pick-same s l (open-fits s l o), alike .values s l, alike .tolerance) refl
+        at s l false o = rw (← open-same s l, o) refl
 
     -- the refusal under question 19
     slack-refusal
-        : slackState p v picks (walk p picks .marks) < p .states
-        → refused 19 (slackState p v picks (walk p picks .marks))
-        (subℕ (v (slackState p v picks (walk p picks .marks))) (pickValue p v picks (slackState p v picks (walk p picks .marks))))
-        ≡ refused 19 (slackState p w picks′ (walk p picks′ .marks))
-        (subℕ (w (slackState p w picks′ (walk p picks′ .marks))) (pickValue p w picks′ (slackState p w picks′ (walk p picks′ .marks))))
+        : slackState p v picks marks < p .states
+        → refused 19 (slackState p v picks marks)
+        (subℕ (v (slackState p v picks marks)) (pickValue p v picks (slackState p v picks marks)))
+        ≡ refused 19 (slackState q w picks′ marks′)
+        (subℕ (w (slackState q w picks′ marks′)) (pickValue q w picks′ (slackState q w picks′ marks′)))
     slack-refusal l =
-        let s = slackState p v picks (walk p picks .marks) in
-        let here : refused 19 s (subℕ (v s) (pickValue p v picks s)) ≡ refused 19 s (subℕ (w s) (pickValue p w picks′ s)) =
-        rw (pick-same s l (open-fits s l (slack-open p v picks (walk p picks .marks) l)), values-agree s l) refl in
-        here ∙ ap (λ x. refused 19 x (subℕ (w x) (pickValue p w picks′ x))) slack-same
+        let s = slackState p v picks marks in
+        let here : refused 19 s (subℕ (v s) (pickValue p v picks s)) ≡ refused 19 s (subℕ (w s) (pickValue q w picks′ s)) =
+        rw (pick-same s l (open-fits s l (slack-open p v picks marks l)), alike .values s l) refl in
+        here ∙ ap (λ x. refused 19 x (subℕ (w x) (pickValue q w picks′ x))) slack-same
 
-  least-to-same : (marks : List ℕ) (k : ℕ) → k ≤ p .states → leastTo p picks marks k ≡ leastTo p picks′ marks k
-  unfolding leastTo pickCost
-  least-to-same marks zero h = rw (picks-agree (p .start) (formed .start-state)) refl
-  least-to-same marks (suc k) h = rw (least-to-same marks k (omega arith), picks-agree k (omega arith)) refl
+    start-fits : ownPick p (p .start) (picks (p .start)) ≡ true
+    start-fits =
+        open-fits (p .start) (formed .start-state)
+        (rw (formed .start-open, reached-marked p formed picks (p .start) at-start) refl)
 
-  least-same : leastCost p picks ≡ leastCost p picks′
-  unfolding leastCost
-  least-same =
-      least-to-same (walk p picks .marks) (p .states) (omega arith) ∙ ap (λ m. leastTo p picks′ m (p .states)) marks-same
+    least-to-same : (k : ℕ) → k ≤ p .states → leastTo p picks marks k ≡ leastTo q picks′ marks′ k
+    unfolding leastTo
+    least-to-same zero h = cost-same (p .start) (formed .start-state) start-fits ∙ ap (pickCost q picks′) (alike .start)
+    least-to-same (suc k) h =
+        rw (← open-same k (omega arith), ← least-to-same k (omega arith)) (at (open-state p marks k) refl)
+      where
+        at : (b : Bool) → open-state p marks k ≡ b
+            → leastOn b (pickCost p picks k) (leastTo p picks marks k)
+            ≡ leastOn b (pickCost q picks′ k) (leastTo p picks marks k)
+        at true o = rw (cost-same k (omega arith) (open-fits k (omega arith) o)) refl
+        at false o = refl
 
-  pub tables-same : tableQuestions p v picks ≡ tableQuestions p w picks′
+    least-same : leastCost p picks ≡ leastCost q picks′
+    unfolding leastCost
+    least-same = least-to-same (p .states) (omega arith) ∙ ap (leastTo q picks′ marks′) (alike .states)
+
+  pub tables-alike : tableQuestions p v picks ≡ tableQuestions q w picks′
   unfolding tableQuestions
+  tables-alike =
+      or-else-same (ap₂ leb (alike .states) unbounded-same) (λ n. ap (λ s. refused 16 s (pos 0)) unbounded-same)
+      λ bounded. or-else-same (ap₂ leb (alike .states) state-same) (λ n. undercut-same (leb-false _ _ n))
+      λ above. or-else-same (ap₂ leb (alike .states) stray-same) (λ n. ap (λ s. refused 18 s (pos 0)) stray-same)
+      λ straight.
+      or-else-same (ap₂ leb (alike .states) (slack-same straight)) (λ n. slack-refusal straight (leb-false _ _ n))
+      λ close. ap accepted (least-same straight)
+
+-- one problem, and tables that agree on its states
+module _ (p : Problem) (formed : WellFormed p) (v w picks picks′ : ℕ → ℕ) (values-agree : (s : ℕ) → s < p .states → v s ≡ w s)
+    (picks-agree : (s : ℕ) → s < p .states → picks s ≡ picks′ s) where
+  pub tables-same : tableQuestions p v picks ≡ tableQuestions p w picks′
   tables-same =
-      or-else-same (ap (leb (p .states)) unbounded-same) (λ n. ap (λ s. refused 16 s (pos 0)) unbounded-same)
-      λ bounded. or-else-same (ap (leb (p .states)) state-same) (λ n. undercut-same (leb-false _ _ n))
-      λ above. or-else-same (ap (leb (p .states)) stray-same) (λ n. ap (λ s. refused 18 s (pos 0)) stray-same)
-      λ straight. or-else-same (ap (leb (p .states)) (slack-same straight)) (λ n. slack-refusal straight (leb-false _ _ n))
-      λ close. ap accepted least-same
+      tables-alike p p formed v w picks picks′
+      record {
+        start = refl;
+        tolerance = refl;
+        penalty = refl;
+        states = refl;
+        goals = λ s l. refl;
+        first-rows = λ s l. refl;
+        row-counts = λ s l. refl;
+        costs = λ r l. refl;
+        row-values = rowValue-same-states p formed v w values-agree;
+        values = values-agree;
+        picked = picks-agree;
+        marked = λ s l. ap (λ t. getD (t .marks) s 0) (walk-same p formed picks picks′ picks-agree);
+      }

@@ -1,6 +1,6 @@
 -- What is promised of the rules of documents 01 and 02: each sentence is quoted over the theorem that it is, and a proof is a line
 -- that cites. Nothing has to be believed but the model; the statements add `Met`, `after` and `taken` below, and `Accepts`, `Takes`,
--- `Allowed`, `Beyond`, `HasLine`, `PickLine` and `machineOf` of other files.
+-- `Allowed`, `Beyond`, `HasLine`, `PickLine`, `machineOf`, `Encodable` and `Says` of other files.
 use mathlib.Core.Path.{_≡_, _∙_, ap}
 use Prim.Native.Nat.{ℕ, _+_, _-_, _*_, _≤_, _<_}
 use native.Mathlib.Omega.{arith}
@@ -24,6 +24,8 @@ use Rattle.model.specs.declared.Follower.{Follower}
 use Rattle.model.specs.Cover.{Choice, Cover, planOf}
 use Rattle.model.specs.Promises.{roundsEnough}
 use Rattle.model.specs.Sheets.{sheetText, tableText}
+use Rattle.model.specs.Encoding.{encode}
+use Rattle.model.specs.SetForm.{setForm, Same}
 use Rattle.guarantee.specs.Rates.{seconds-rounded, rate-cost, table-printed}
 use Rattle.guarantee.specs.WellFormed.{well-formed}
 use Rattle.guarantee.specs.Walks.{reached-marked, walk-whole, listed-reached, listed-open, reached-listed, listed-places}
@@ -45,6 +47,10 @@ use Rattle.guarantee.specs.Follows.{opened, opens, audit-first, opening-
 use Rattle.guarantee.specs.Follows.{given-up-left, row-left, Takes, done-takes, takes-done}
 use Rattle.guarantee.specs.Shifts.{Came, nothing-follows, reports-came, OnTheWay, reports-underway, goal-ended}
 use Rattle.guarantee.specs.Shifts.{outcome-missing, way-goes-on, moves-spent, ended-stays}
+use Rattle.guarantee.specs.Encodings.{Encodable, Says, encode-reads}
+use Rattle.guarantee.specs.Passing.{encode-passes}
+use Rattle.guarantee.specs.Forms.{form-short, forms-same, same-forms, form-passes, form-says-same, form-again, form-row-values}
+use Rattle.guarantee.specs.Forms.{form-row-remainders, form-audit, same-forms-audits}
 
 -- Demand 3: "Take any file, table V and plan that the audit accepts; e is the file's tolerance and C the least cost on the plan, both in
 -- ticks."
@@ -167,6 +173,54 @@ sheet-is-the-table = table-printed
 -- "Files keep the 1,000 mm meaning.": a row of kind 1 costs what the 1,000 mm sheet has at its rate
 pub files-keep-meaning : (f : List ℕ) (r : ℕ) → kindOf f r ≡ 1 → problemOf f .cost r ≡ lengthSeconds 1000 (costNumberOf f r)
 files-keep-meaning = rate-cost
+
+-- Request E6, one agreed form for exchange: "Two accepted files with equal settings, estimates, goals, number of rows at each state,
+-- row costs and total chance from each row to each state have equal set forms, and only such files do."
+pub equal-forms
+    : (f g : List ℕ) → fileQuestions f ≡ passes → fileQuestions g ≡ passes
+    → (setForm f ≡ setForm g) ↔ Same (problemOf f) (problemOf g)
+equal-forms f g file file′ = (forms-same f g file file′, same-forms f g file file′)
+
+module _ (f : List ℕ) (file : fileQuestions f ≡ passes) where
+  -- a set form is a file that questions 1 to 11 let through
+  pub form-is-accepted : fileQuestions (setForm f) ≡ passes
+  form-is-accepted = form-passes f file
+
+  -- and it says the same problem
+  pub form-says-the-same : Same (problemOf f) (problemOf (setForm f))
+  form-says-the-same = form-says-same f file
+
+  -- no output as long as the file is too short for it
+  pub form-no-longer : length (setForm f) ≤ length f
+  form-no-longer = form-short f file
+
+  -- "Writing a set form again changes nothing."
+  pub form-stays : setForm (setForm f) ≡ setForm f
+  form-stays = form-again f file
+
+  -- "Row values and audit results agree between a file and its set form.": under every table, the remainders too; and the audit's
+  -- whole answer, of every two tables
+  pub form-values
+      : (v : ℕ → ℕ) (r : ℕ) → r < problemOf f .rows → rowValue (problemOf (setForm f)) v r ≡ rowValue (problemOf f) v r
+  form-values = form-row-values f file
+
+  pub form-remainders
+      : (v : ℕ → ℕ) (r : ℕ) → r < problemOf f .rows → rowRemainder (problemOf (setForm f)) v r ≡ rowRemainder (problemOf f) v r
+  form-remainders = form-row-remainders f file
+
+  pub form-audits : (values picks : List ℕ) → audit (setForm f) values picks ≡ audit f values picks
+  form-audits = form-audit f file
+
+-- so two laboratories that hold files with equal set forms get the same answer of the audit
+pub equal-forms-audit
+    : (f g : List ℕ) → fileQuestions f ≡ passes → fileQuestions g ≡ passes → setForm f ≡ setForm g → (values picks : List ℕ)
+    → audit f values picks ≡ audit g values picks
+equal-forms-audit = same-forms-audits
+
+-- What is written reads back: the bytes of any data that obey the sections (`Encodable`) are a file that questions 1 to 11 let through,
+-- and its problem says these data (`Says`)
+pub encoded-reads-back : (p : Problem) → Encodable p → (fileQuestions (encode p) ≡ passes) × Says p (problemOf (encode p))
+encoded-reads-back p fits = (encode-passes p fits, encode-reads p fits)
 
 -- Demand 1: "the first failed question of document 01 with its place, lent tables unchanged (save at 14)". The question is one of 1 to 13
 pub refusal

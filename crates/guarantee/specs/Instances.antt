@@ -1,6 +1,6 @@
 -- The theorems speak of something: each one's hypotheses are met by file P of document 01, its answer and its run.
 -- P's facts are those of the melt-room cases and a few more computed from its bytes; the rest cites the theorems.
-use mathlib.Core.Path.{_≡_, refl, ap}
+use mathlib.Core.Path.{_≡_, refl, sym, _∙_, ap}
 use Prim.Native.Nat.{ℕ, _+_, _*_, _≤_, _<_}
 use native.Mathlib.Omega.{arith}
 use mathlib.Core.Bool.{true}
@@ -11,8 +11,8 @@ use lib.ListN.{getD, replicate}
 use Rattle.model.specs.Bytes.{u16At, u32At}
 use borrow.Author.Tests.{leb-true, le-leb}
 use Rattle.model.specs.Limits.{maxBudget, planRounds, giveUp}
-use Rattle.model.specs.Cases.{fileP, penaltyP, tied, valuesP, picksP, gives, valuesGives, lent, planned, at}
-use Rattle.model.specs.Cases.{cases-hold, others-hold, requested-hold}
+use Rattle.model.specs.Cases.{fileP, partnerP, penaltyP, tied, valuesP, picksP, gives, valuesGives, lent, planned, at}
+use Rattle.model.specs.Cases.{cases-hold, others-hold, requested-hold, forms-hold}
 use Rattle.model.specs.Problem.{Problem, giveUpCost, ownRow}
 use Rattle.model.specs.Lines.{runStates, listed}
 use Rattle.model.specs.Search.{sumTo}
@@ -22,6 +22,7 @@ use Rattle.model.specs.Questions.{passes, fileQuestions}
 use Rattle.model.specs.Walk.{Reached, at-start, visitOutcomes, visitState, next, walk, pickCost, leastCost}
 use Rattle.model.specs.Rounds.{Machine, fillTo, machineStart, walked, runFrom, runOf, scanOf, bellman, beats, evaluateOn}
 use Rattle.model.specs.Rounds.{considerOn, consider, considerIf, scanFrom, scan, raiseOn, settle, backup}
+use Rattle.model.specs.SetForm.{inSetForm, Same}
 use Rattle.model.specs.Solution.{fine, Tables, Solution, solved, spent, refused, solutionOf, solveQuestions, solution}
 use Rattle.model.specs.Audit.{accepted, refused as audit-refused, audit}
 use Rattle.model.specs.Following.{done, refused as report-refused, Report, opening, report, reports}
@@ -31,12 +32,15 @@ use Rattle.guarantee.specs.WellFormed.{WellFormed, Laid, well-formed, la
 use Rattle.guarantee.specs.Searches.{yes-ask}
 use Rattle.guarantee.specs.Accepted.{audit-accepts}
 use Rattle.guarantee.specs.Closeness.{audit-close}
+use Rattle.guarantee.specs.Encodings.{Encodable}
+use Rattle.guarantee.specs.Forms.{form-encodable}
 use Rattle.guarantee.specs.Solutions.{solution-refused}
 use Rattle.guarantee.specs.Listings.{PickLine}
 use Rattle.guarantee.specs.Guarantee.{closeness-lower, ending, acceptance, Met, starts, walks, built-on-bellman}
 use Rattle.guarantee.specs.Guarantee.{runs-the-rounds, rounds-fit, giving-up-refused, least-at-most}
 use Rattle.guarantee.specs.Guarantee.{after, goal-ends, giving-up-ends, lines-name-picks}
 use Rattle.guarantee.specs.Guarantee.{backs-up, plan-gives-up-when-cheaper, row-beats-giving-up, earlier-pick-wins}
+use Rattle.guarantee.specs.Guarantee.{equal-forms}
 
 abbrev pub problemP : Problem
 problemP = problemOf fileP
@@ -236,3 +240,11 @@ gives-ends more o =
 pub empty-refused : (budget : ℕ) (t : Tables) → solution [] budget t .answer ≡ refused 1 0
 empty-refused budget t =
     ap (λ a. a .answer) (solution-refused [] budget t 1 0 (rw (cases-hold .1 .1 .1 .1 .1 .1 .1 .1 .1 .1 .0)))
+
+-- Request E6: P and what a partner made of it say the same problem, since their set forms are equal, and the data of P's form can be encoded
+
+pub p-same : Same problemP (problemOf partnerP)
+p-same = equal-forms fileP partnerP p-passes (forms-hold .1 .1 .1 .0) .0 (forms-hold .0 ∙ sym (forms-hold .1 .0))
+
+pub p-encodable : Encodable (inSetForm problemP)
+p-encodable = form-encodable fileP p-passes

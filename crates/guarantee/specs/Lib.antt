@@ -42,3 +42,9 @@ pub mod Excess
 pub mod Agreeing
 pub mod TableFiles
 pub mod Prefixes
+pub mod Chances
+pub mod Sames
+pub mod Standing
+pub mod Encodings
+pub mod Passing
+pub mod Forms

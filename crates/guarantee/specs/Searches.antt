@@ -10,7 +10,7 @@ use mathlib.Core.Logic.{_⊎_, inl, inr}
 use lib.Dec.{leb}
 use borrow.Author.Tests.{leb-true, le-leb}
 use Rattle.model.specs.Search.{first, firstOn, sumTo}
-use Rattle.model.specs.Questions.{Verdict, passes, fails, _then_, ask, askEach}
+use Rattle.model.specs.Questions.{Verdict, passes, fails, _then_, ask, askEach, between}
 
 -- tests
 
@@ -155,6 +155,12 @@ yes-ask q i h = rw h
 
 pub ask-each-yes : (q n : ℕ) (ok : ℕ → Bool) → askEach q n ok ≡ passes → (j : ℕ) → j < n → ok j ≡ true
 ask-each-yes q n ok h = each-yes ok n (ask-yes q (first ok 0 n) (leb n (first ok 0 n)) h)
+
+pub yes-ask-each : (q n : ℕ) (ok : ℕ → Bool) → ((j : ℕ) → j < n → ok j ≡ true) → askEach q n ok ≡ passes
+yes-ask-each q n ok h = yes-ask q (first ok 0 n) (yes-each ok n h)
+
+pub yes-between : (low high x : ℕ) → low ≤ x → x ≤ high → between low high x ≡ true
+yes-between low high x l h = and-both (le-leb low x l) (le-leb x high h)
 
 -- sums
 

@@ -3,13 +3,14 @@
 use mathlib.Core.Path.{_≡_, refl, sym, _∙_, ap}
 use Prim.Native.Nat.{ℕ, zero, suc, _+_, _*_, _/_, _%_, _≤_, _<_}
 use native.Mathlib.Decide.{decLe}
+use native.Mathlib.Numerals.{add-one}
 use native.Mathlib.Omega.{arith}
-use mathlib.Core.List.{List, [], _∷_, _++_}
+use mathlib.Core.List.{List, [], _∷_, _++_, append-assoc, append-nil}
 use lib.ListN.{length, getD, take, length-append}
 use lib.Seq.{getD-take, take-suc, take-all, take-length, take-append-le, length-take-le}
-use Rattle.model.specs.Bytes.{u16At, u32At}
+use Rattle.model.specs.Bytes.{u16At, u32At, numberBytes}
 use Rattle.model.specs.Limits.{giveUp, valueBound}
-use Rattle.model.specs.TableFiles.{numberBytes, tableBytes, bytes16, bytes32, listTo, entries16, entries32}
+use Rattle.model.specs.TableFiles.{tableBytes, bytes16, bytes32, listTo, entries16, entries32}
 
 -- lists of values
 
@@ -84,7 +85,7 @@ entries32-front n b = go (decLe (length b) (4 * n))
 
 -- what was written
 
-number-length : (width x : ℕ) → length (numberBytes width x) ≡ width
+pub number-length : (width x : ℕ) → length (numberBytes width x) ≡ width
 unfolding numberBytes
 number-length zero x = refl
 number-length (suc width) x = ap suc (number-length width (x / 256))
@@ -94,6 +95,34 @@ unfolding tableBytes
 bytes-length width [] = omega arith
 bytes-length width (x ∷ t) =
     length-append (numberBytes width x) (tableBytes width t) ∙ omega (arith, number-length width x, bytes-length width t)
+
+-- the bytes of one table after another, of no entries, of one more, and of all
+
+pub bytes-append : (width : ℕ) (a b : List ℕ) → tableBytes width (a ++ b) ≡ tableBytes width a ++ tableBytes width b
+unfolding tableBytes
+bytes-append width [] b = refl
+bytes-append width (x ∷ a) b =
+    ap (λ t. numberBytes width x ++ t) (bytes-append width a b)
+    ∙ sym (append-assoc (numberBytes width x) (tableBytes width a) (tableBytes width b))
+
+bytes-one : (width x : ℕ) → tableBytes width (x ∷ []) ≡ numberBytes width x
+unfolding tableBytes
+bytes-one width x = append-nil (numberBytes width x)
+
+pub no-bytes : (width : ℕ) → tableBytes width [] ≡ []
+unfolding tableBytes
+no-bytes width = refl
+
+module _ (width : ℕ) (table : List ℕ) where
+  pub bytes-next
+      : (i : ℕ) → i < length table
+      → tableBytes width (take (i + 1) table) ≡ tableBytes width (take i table) ++ numberBytes width (getD table i 0)
+  bytes-next i l =
+      let x = getD table i 0 in
+      rw (add-one i, take-suc table i 0 l, bytes-append width (take i table) (x ∷ []), bytes-one width x) refl
+
+  pub bytes-all : tableBytes width (take (length table) table) ≡ tableBytes width table
+  bytes-all = ap (tableBytes width) (take-all (length table) table (omega arith))
 
 -- the entry after the first stands one entry further on
 u16-next : (a b : ℕ) (f : List ℕ) (i : ℕ) → u16At (a ∷ b ∷ f) (suc (suc i)) ≡ u16At f i

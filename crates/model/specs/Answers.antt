@@ -11,8 +11,11 @@ use Rattle.model.specs.declared.SolveAnswer.{SolveAnswer}
 use Rattle.model.specs.declared.SolveAnswer.the-variants.{Solved, Spent, Refused as Turned-down}
 use Rattle.model.specs.declared.AuditAnswer.{AuditAnswer}
 use Rattle.model.specs.declared.AuditAnswer.the-variants.{Accepted, Refused as Audit-refused}
+use Rattle.model.specs.SetForm.{Exchanged, written, refused as form-refused}
 use Rattle.model.specs.declared.FollowAnswer.{FollowAnswer}
 use Rattle.model.specs.declared.FollowAnswer.the-variants.{Done, Refused as Report-refused}
+use Rattle.model.specs.declared.FormAnswer.{FormAnswer}
+use Rattle.model.specs.declared.FormAnswer.the-variants.{Written, Refused as Form-refused}
 
 -- what the code's answers carry, case by case: of questions 1 to 11,
 abbrev pub fileCarries : FileAnswer → Carried
@@ -35,6 +38,11 @@ auditCarries (Audit-refused q i excess) = refusal q i excess
 abbrev pub followedOf : FollowAnswer → Followed
 followedOf Done = done
 followedOf (Report-refused q i excess) = report-refused q i excess
+
+-- Of writing a set form: its length, or the number of the question that said no and its place
+abbrev pub exchangedOf : FormAnswer → Exchanged
+exchangedOf (Written n) = written n
+exchangedOf (Form-refused q i) = form-refused q i
 
 -- what the answers of the definitions carry
 

@@ -3,10 +3,10 @@
 use mathlib.Core.Path.{_≡_, refl}
 use Prim.Native.Nat.{ℕ, _+_}
 use mathlib.Core.Bool.{false}
-use mathlib.Core.List.{List, [], _∷_}
+use mathlib.Core.List.{List, [], _∷_, _++_}
 use lib.IntN.{pos, negsuc}
 use lib.ListN.{set, replicate}
-use Rattle.model.specs.Bytes.{u16At, u32At}
+use Rattle.model.specs.Bytes.{u16At, u32At, numberBytes}
 use Rattle.model.specs.Limits.{planRounds}
 use Rattle.model.specs.Problem.{Problem, Outcome}
 use Rattle.model.specs.Search.{first, sumTo}
@@ -29,8 +29,10 @@ use Rattle.model.specs.Following.{moved, report, reports, acceptedOf}
 use Rattle.model.specs.declared.Follower.{Follower}
 use Rattle.model.specs.Lines.{codes, planText, answerLine, stateLines, stateLine, listed, runStates}
 use Rattle.model.specs.Lines.{decimal, decimalFrom, auditLine}
+use Rattle.model.specs.Encoding.{partsTo, settingBytes, stateBytes, rowBytes, outcomeBytes, encode}
+use Rattle.model.specs.SetForm.{weightTo, gathered, inSetForm, setForm, written, refused as form-refused, exchangeQuestions, exchange}
 use Rattle.model.specs.Sheets.{rateLine, rateLines}
-use Rattle.model.specs.TableFiles.{bytes32, entries16, numberBytes, tableBytes, listTo}
+use Rattle.model.specs.TableFiles.{bytes32, entries16, tableBytes, listTo}
 
 -- the parts of a small file, each with what follows it: settings with start 0, e 1 and D in two bytes; a state that is no goal,
 -- H 0, with so many rows; a goal; a row of so many seconds with one outcome; an outcome of weight 1,000
@@ -106,6 +108,19 @@ abbrev pub rounding : List ℕ
 rounding =
     settingsP
     (2 ∷ 0 ∷ state 1 (goal (1 ∷ 0 ∷ 0 ∷ 2 ∷ 1 ∷ 0 ∷ 2 ∷ 0 ∷ 0 ∷ 0 ∷ 77 ∷ 1 ∷ 1 ∷ 0 ∷ 155 ∷ 2 ∷ [])))
+
+-- P sent by a partner: row 0's outcomes in another order, its outcome to 1 in two parts of 400 and 500; row 1 by its seconds, 600; row 2's
+-- outcome in two parts of 1 and 999
+abbrev pub partnerP : List ℕ
+partnerP =
+    settingsP
+    (statesP
+    (3 ∷ 0 ∷ 0 ∷ 3 ∷ 100 ∷ 0 ∷ 0 ∷ 1 ∷ 88 ∷ 2 ∷ 0 ∷ 2 ∷ 44 ∷ 1
+    ∷ 6 ∷ 0 ∷ 2 ∷ 0 ∷ 100 ∷ 0 ∷ 1 ∷ 0 ∷ 144 ∷ 1 ∷ 1 ∷ 0 ∷ 244 ∷ 1 ∷ 2 ∷ 0 ∷ 232 ∷ 3 ∷ 2 ∷ 0 ∷ 1 ∷ 0 ∷ 2 ∷ 0 ∷ 231 ∷ 3 ∷ []))
+
+-- and the set form of both: row 1 has its seconds under kind 0
+abbrev pub formP : List ℕ
+formP = settingsP (statesP (3 ∷ 0 ∷ 0 ∷ 2 ∷ 100 ∷ 0 ∷ 0 ∷ 1 ∷ 88 ∷ 2 ∷ 0 ∷ 1 ∷ 44 ∷ 1 ∷ outcomesP))
 
 -- four lent tables of n entries, and what `plan` does with a file
 abbrev pub lent : ℕ → Tables
@@ -263,11 +278,25 @@ requested =
     ∷ (rateLines (lengthSeconds 1000) 2 ≡ codes "10 60000\n11 54546\n")
     ∷ []
 
+-- and those of E6: P and what a partner made of it have one set form, of 66 bytes, which is its own. An output of 65 bytes is too short and
+-- stays; of one of 68 the last two bytes stay; a file that is refused is refused first
+abbrev pub forms : List (Type 0)
+forms =
+    (setForm fileP ≡ formP)
+    ∷ (setForm partnerP ≡ formP)
+    ∷ (setForm formP ≡ formP)
+    ∷ (fileQuestions partnerP ≡ passes)
+    ∷ (weightTo (problemOf partnerP .outcomes 0) 1 ≡ 900)
+    ∷ (exchange partnerP (replicate 65 7) ≡ record { answer = form-refused 23 0; left = replicate 65 7 })
+    ∷ (exchange partnerP (replicate 68 7) ≡ record { answer = written 66; left = formP ++ (7 ∷ 7 ∷ []) })
+    ∷ (exchange (rateP 9 0) [] ≡ record { answer = form-refused 8 1; left = [] })
+    ∷ []
+
 infixr 40 _and_
 abbrev _and_ : {A B : Type 0} → A → B → A × B
 a and b = (a, b)
 
-computed : All cases × All others × All requested
+computed : All cases × All others × All requested × All forms
 unfolding fileQuestions layoutQuestions sectionQuestions endQuestion settingQuestions itemQuestions stateQuestion stateObeys startQuestion
     rowNumberQuestion rowQuestion rowObeys costObeys outcomeNumberQuestion outcomeQuestion outcomesObey estimateQuestion undercutState
     undercutRow first sumTo rowValue rowRemainder pickRemainder weightedSum totalWeight problemOf statesAt rowsAt outcomesAt fileEnd
@@ -279,6 +308,7 @@ unfolding fileQuestions layoutQuestions sectionQuestions endQuestion settingQues
     opening report reports acceptedOf reportQuestions moved leadsTo moveSeconds hasOutcome wayTo waySeconds
     planText answerLine stateLines stateLine listed runStates decimal decimalFrom auditLine numberBytes tableBytes listTo entries16
     rateLine rateLines
+    partsTo settingBytes stateBytes rowBytes outcomeBytes encode weightTo gathered inSetForm setForm exchangeQuestions exchange
 computed = (
   refl and refl and refl and refl and refl and refl and refl and refl and refl and refl
       and refl and refl and refl and refl and refl and refl and refl and refl and refl and tt,
@@ -289,6 +319,7 @@ computed = (
       and refl and refl and refl and refl and refl and refl and refl and refl and refl
       and refl and refl and refl and refl and refl
       and refl and refl and refl and refl and tt,
+  refl and refl and refl and refl and refl and refl and refl and refl and tt,
 )
 
 pub cases-hold : All cases
@@ -299,3 +330,6 @@ others-hold = computed .1
 
 pub requested-hold : All requested
 requested-hold = computed .2
+
+pub forms-hold : All forms
+forms-hold = computed .3

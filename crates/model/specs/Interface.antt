@@ -10,6 +10,7 @@ use Rattle.model.specs.Carried.{Said, passed, solved, spent, accepted, r
 use Rattle.model.specs.Answers.{answerCarries}
 use Rattle.model.specs.Solution.{Tables, Solution}
 use Rattle.model.specs.Following.{Followed, done, refused as report-refused, Report}
+use Rattle.model.specs.SetForm.{Exchanged, written, refused as form-refused, Exchange}
 use Rattle.model.specs.declared.Follower.{Follower}
 
 pub record Numbers (A : Type 0) : Type 0 where
@@ -86,3 +87,17 @@ followerOn false a w l = l
 pub record HandsOn (r : Report) (lent left : List ℕ) (before after : List ℤ) (status : ℕ) : Type 0 where
   pub numbers-are : Written (followNumbers (r .answer) (r .left)) before after status
   pub record-is : left ≡ followerOn (leb 3 (length before)) (r .answer) (r .left) lent
+
+-- Set forms (E6): "3 with the length, 0, 0; 0 refused with question, place, 0"
+abbrev pub formNumbers : Exchanged → Numbers ℕ
+formNumbers (written n) = numbers 3 n 0 0
+formNumbers (form-refused q i) = numbers 0 q i 0
+
+abbrev pub formOn : Bool → Exchange → List ℕ → List ℕ
+formOn true e out = e .left
+formOn false e out = out
+
+-- what writing a set form hands back: the numbers, and the output; where `answer` has fewer than 3 entries nothing is written
+pub record HandsOut (e : Exchange) (lent left : List ℕ) (before after : List ℕ) (status : ℕ) : Type 0 where
+  pub numbers-are : Written (formNumbers (e .answer)) before after status
+  pub output-is : left ≡ formOn (leb 3 (length before)) e lent

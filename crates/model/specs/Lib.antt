@@ -12,13 +12,15 @@ pub mod Rounds
 pub mod Solution
 pub mod Audit
 pub mod Following
+pub mod Buffers
+pub mod Encoding
+pub mod SetForm
 pub mod Carried
 pub mod Answers
 pub mod Lines
 pub mod Sheets
 pub mod TableFiles
 pub mod Cover
-pub mod Buffers
 pub mod Interface
 pub mod Promises
 pub mod Cases

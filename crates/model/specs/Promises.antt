@@ -16,9 +16,11 @@ use Rattle.model.specs.Audit.{accepted, audit}
 use Rattle.model.specs.Cover.{Choice, Cover, planOf, allowance, openTo}
 use Rattle.model.specs.Carried.{Said, Carried}
 use Rattle.model.specs.Following.{Report}
-use Rattle.model.specs.Answers.{answerCarries, followedOf}
+use Rattle.model.specs.Answers.{answerCarries, followedOf, exchangedOf}
+use Rattle.model.specs.SetForm.{Exchange}
 use Rattle.model.specs.declared.Follower.{Follower}
 use Rattle.model.specs.declared.FollowAnswer.{FollowAnswer}
+use Rattle.model.specs.declared.FormAnswer.{FormAnswer}
 use Rattle.model.specs.Lines.{planText, runStates}
 use Rattle.model.specs.Buffers.{Holds, planRoom}
 
@@ -62,6 +64,11 @@ pub record ExcessFits (e q : ℕ) (z : ℤ) : Type 0 where
 -- what an opening or a report answers, and the record as it leaves it, are those of a definition
 pub record Answered (answer : FollowAnswer) (left : Follower) (said : Report) : Type 0 where
   pub answer-is : followedOf answer ≡ said .answer
+  pub left-is : left ≡ said .left
+
+-- what writing a set form answers, and the output as it leaves it, are those of a definition
+pub record Exchanges (answer : FormAnswer) (left : List ℕ) (said : Exchange) : Type 0 where
+  pub answer-is : exchangedOf answer ≡ said .answer
   pub left-is : left ≡ said .left
 
 -- "The program `plan` .. runs up to 1,000,000 rounds": with lent values and picks, and tables of its own for what is remembered and for

@@ -1,13 +1,8 @@
 -- Table files: "values as 32-bit and picks as 16-bit numbers, least byte first, one entry a state".
-use Prim.Native.Nat.{ℕ, zero, suc, _*_, _/_, _%_}
+use Prim.Native.Nat.{ℕ, zero, suc, _*_, _/_}
 use mathlib.Core.List.{List, [], _∷_, _++_}
 use lib.ListN.{length}
-use Rattle.model.specs.Bytes.{u16At, u32At}
-
--- a number in so many bytes: 258 in two is 2, 1
-unfoldable pub numberBytes : ℕ → ℕ → List ℕ
-numberBytes zero x = []
-numberBytes (suc width) x = x % 256 ∷ numberBytes width (x / 256)
+use Rattle.model.specs.Bytes.{u16At, u32At, numberBytes}
 
 -- a table, so many bytes an entry
 unfoldable pub tableBytes : ℕ → List ℕ → List ℕ

@@ -111,3 +111,9 @@ pub enum FollowAnswer {
         excess: i64,
     },
 }
+
+// The answer of writing a file in set form: its length, or questions 1 to 11 and 23.
+pub enum FormAnswer {
+    Written { length: u32 },
+    Refused { question: u8, place: u32 },
+}

@@ -1,46 +1,15 @@
--- Laws of table files: bytes are put entry after entry, and entries are read one after the other.
-use mathlib.Core.Path.{_≡_, refl, sym, _∙_, ap}
+-- Laws of table files: entries are read one after the other.
+use mathlib.Core.Path.{_≡_, refl, sym, _∙_}
 use Prim.Native.Nat.{ℕ, _+_, _-_, _≤_, _<_}
 use native.Mathlib.Omega.{arith}
 use native.Mathlib.Numerals.{add-one}
-use mathlib.Core.List.{List, [], _∷_, _++_, append-assoc, append-nil}
-use lib.ListN.{length, getD, set, take, drop, length-set}
-use lib.Seq.{take-suc, take-suc-set, take-all, drop-set-lt}
-use Rattle.model.specs.TableFiles.{numberBytes, tableBytes, listTo}
+use mathlib.Core.List.{List}
+use lib.ListN.{length, set, take, drop, length-set}
+use lib.Seq.{take-suc-set, take-all, drop-set-lt}
+use Rattle.model.specs.TableFiles.{listTo}
 use Rattle.guarantee.specs.TableFiles.{list-length, list-front}
 use Rattle.model.specs.Buffers.{Holds}
 use Rattle.printing.proofs.Putting.{further}
-
--- bytes
-
-bytes-append : (width : ℕ) (a b : List ℕ) → tableBytes width (a ++ b) ≡ tableBytes width a ++ tableBytes width b
-unfolding tableBytes
-bytes-append width [] b = refl
-bytes-append width (x ∷ a) b =
-    ap (λ t. numberBytes width x ++ t) (bytes-append width a b)
-    ∙ sym (append-assoc (numberBytes width x) (tableBytes width a) (tableBytes width b))
-
-bytes-one : (width x : ℕ) → tableBytes width (x ∷ []) ≡ numberBytes width x
-unfolding tableBytes
-bytes-one width x = append-nil (numberBytes width x)
-
--- the bytes of no entries, of one more, and of all
-pub no-bytes : (width : ℕ) → tableBytes width [] ≡ []
-unfolding tableBytes
-no-bytes width = refl
-
-module _ (width : ℕ) (table : List ℕ) where
-  pub bytes-next
-      : (i : ℕ) → i < length table
-      → tableBytes width (take (i + 1) table) ≡ tableBytes width (take i table) ++ numberBytes width (getD table i 0)
-  bytes-next i l =
-      let x = getD table i 0 in
-      rw (add-one i, take-suc table i 0 l, bytes-append width (take i table) (x ∷ []), bytes-one width x) refl
-
-  pub bytes-all : tableBytes width (take (length table) table) ≡ tableBytes width table
-  bytes-all = ap (tableBytes width) (take-all (length table) table (omega arith))
-
--- entries
 
 -- the loop that reads k of n entries into a table, the rest of which is as it was
 pub record Read (g : ℕ → ℕ) (n : ℕ) (table₀ table : List ℕ) (k : ℕ) : Type 0 where

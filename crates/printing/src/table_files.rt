@@ -5,7 +5,8 @@ use reading::numbers::u32_at;
 ghost use mathlib.Core.List.{_++_};
 ghost use Prim.Native.Nat.{_≤_};
 ghost use lib.ListN.{length, take};
-ghost use Rattle.model.specs.TableFiles.{numberBytes, bytes16, bytes32, entries16, entries32};
+ghost use Rattle.model.specs.Bytes.{numberBytes};
+ghost use Rattle.model.specs.TableFiles.{bytes16, bytes32, entries16, entries32};
 ghost use Rattle.model.specs.Buffers.{Holds};
 
 // The bytes of an entry.

@@ -42,3 +42,7 @@ module _ (f : List ℕ) (whole : layoutQuestions f ≡ passes) where
   pub estimate-at : (s : ℕ) → u32At f (firstState + 6 * s) ≡ problemOf f .estimate s
   unfolding problemOf
   estimate-at s = ap (λ i. u32At f i) (omega (arith, sectioned f whole .states-at))
+
+  pub row-count-at : (s : ℕ) → getD f (firstState + 6 * s + 4) 0 ≡ problemOf f .rowCount s
+  unfolding problemOf
+  row-count-at s = ap (λ i. getD f i 0) (omega (arith, sectioned f whole .states-at))

@@ -14,7 +14,7 @@ ghost use Rattle.reading.specs.RowParts.{secondsAt};
 ghost use Rattle.reading.specs.Tests.{outcomesIn};
 
 // The outcomes of row r, 4 bytes each, as a part that starts inside the file.
-fn outcomes_of<'a>(file: &'a [u8], index: &[u32; INDEX], r: usize) -> &'a [u8]
+pub fn outcomes_of<'a>(file: &'a [u8], index: &[u32; INDEX], r: usize) -> &'a [u8]
     requires { ⌜ Ready (now file) (now index) × (r < problemOf (now file) .rows) ⌝ }
     ensures { λ part. ⌜ outcomesIn (now part) ≡ problemOf (now (file .entry)) .outcomes r ⌝ }
 {

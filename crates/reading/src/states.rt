@@ -9,6 +9,7 @@ ghost use lib.ListN.{length};
 ghost use Rattle.model.specs.Questions.{passes, layoutQuestions};
 ghost use Rattle.model.specs.Rounds.{fillTo};
 ghost use Rattle.model.specs.Sections.{problemOf};
+ghost use Rattle.reading.specs.Bounds.{byteBound};
 
 // Whether state s is a goal.
 pub fn is_goal(file: &[u8], s: usize) -> bool
@@ -18,6 +19,22 @@ pub fn is_goal(file: &[u8], s: usize) -> bool
     byte_at(file, FIRST_STATE + 6 * s + 5) == 1
 }
 
+// The estimate of state s, in ticks.
+pub fn estimate_of(file: &[u8], s: usize) -> u32
+    requires { ⌜ (layoutQuestions (now file) ≡ passes) × (s < problemOf (now file) .states) ⌝ }
+    ensures { λ r. ⌜ r ≡ problemOf (now (file .entry)) .estimate s ⌝ }
+{
+    u32_at(file, FIRST_STATE + 6 * s)
+}
+
+// The number of rows of state s.
+pub fn row_count_of(file: &[u8], s: usize) -> u32
+    requires { ⌜ (layoutQuestions (now file) ≡ passes) × (s < problemOf (now file) .states) ⌝ }
+    ensures { λ r. ⌜ (r ≡ problemOf (now (file .entry)) .rowCount s) × (r < byteBound) ⌝ }
+{
+    byte_at(file, FIRST_STATE + 6 * s + 4)
+}
+
 // Fills in the estimates of the file's n states.
 pub fn estimates(file: &[u8], n: usize, values: &mut [u32])
     requires { ⌜ (layoutQuestions (now file) ≡ passes) × (n ≡ problemOf (now file) .states) × (n ≤ length (now values)) ⌝ }
@@ -25,7 +42,7 @@ pub fn estimates(file: &[u8], n: usize, values: &mut [u32])
 {
     let mut s = 0;
     while s < n {
-        values[s] = u32_at(file, FIRST_STATE + 6 * s);
+        values[s] = estimate_of(file, s);
         s += 1;
     }
 }

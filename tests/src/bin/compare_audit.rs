@@ -4,12 +4,12 @@
 //!
 //! `compare_audit [seed] [files]`
 
-use comparisons::audit::{audit_file, Verdict};
+use comparisons::audit::audit_file;
 use comparisons::damage::damaged;
 use comparisons::encode::Draft;
 use comparisons::examples::{file_p, one_state};
 use comparisons::harness::{argument, noise, Tally};
-use comparisons::library::{self, asked_of_lent, ACCEPTED, ANSWER, REFUSED};
+use comparisons::library::{self, asked_of_audit, asked_of_lent, ACCEPTED, ANSWER};
 use comparisons::limits::*;
 use comparisons::made::{at_limits, deep_chain, made};
 use comparisons::problem::Problem;
@@ -37,12 +37,7 @@ fn product(tally: &mut Tally, file: &[u8], proposal: &Proposal, answer: &mut [i6
 
 /// The paper's audit: its code and its answer.
 fn paper(file: &[u8], proposal: &Proposal) -> (u8, [i64; ANSWER]) {
-    match audit_file(file, &proposal.values, &proposal.picks) {
-        Verdict::Accepted { least_cost } => (ACCEPTED, [i64::from(least_cost), 0, 0]),
-        Verdict::Refused { question, place, excess } => {
-            (REFUSED, [question as i64, place as i64, excess])
-        }
-    }
+    asked_of_audit(audit_file(file, &proposal.values, &proposal.picks))
 }
 
 /// Compares one audit, the answer lent at any length from 0 to 5.

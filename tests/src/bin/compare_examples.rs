@@ -1,10 +1,12 @@
 //! Compiles the C and the Rust example as `README.md` says, runs both on files of `examples` and on
 //! others, and holds what they print against the solver and the audit written apart. So too the
-//! example that follows a plan, against the follower. Holds also what `stick.md` and `README.md` show.
+//! example that follows a plan, against the follower, and the one that writes a set form, against
+//! `set_form.rs`. Holds also what `stick.md` and `README.md` show.
 //!
 //! `compare_examples`
 
 use comparisons::audit::{audit_file, Verdict};
+use comparisons::damage::damaged;
 use comparisons::examples::{path, stick, TEXTS};
 use comparisons::follower::{open, report, Followed, Record};
 use comparisons::harness::Tally;
@@ -12,11 +14,14 @@ use comparisons::limits::{GIVE_UP, PLAN_ROUNDS};
 use comparisons::listing::{audit_line, plan_lines, planned};
 use comparisons::made::{at_limits, deep_chain};
 use comparisons::problem::Problem;
-use comparisons::programs::{said, start, Folder, Said};
+use comparisons::programs::{run_to_end, said, start, Folder, Said};
 use comparisons::random::Random;
+use comparisons::set_form::set_form;
 use comparisons::solver::{solve, Answer, OwnedTables};
+use comparisons::variants::SAME;
+use comparisons::wide::{wide, ORDERS};
 use comparisons::written::Written;
-use std::process::{Command, ExitCode};
+use std::process::{Command, ExitCode, Output};
 
 /// The top of the repository.
 const TOP: &str = concat!(env!("CARGO_MANIFEST_DIR"), "/..");
@@ -49,6 +54,18 @@ const FOLLOW: Example = Example {
     command: "gcc -O2 -Iexamples/c examples/c/follow.c target/staticlib/libcapi.a",
     strict: STRICT_C,
 };
+/// The example that writes a set form.
+const SET_FORM: Example = Example {
+    name: "set_form",
+    command: "gcc -O2 -Iexamples/c examples/c/set_form.c target/staticlib/libcapi.a",
+    strict: STRICT_C,
+};
+/// The room that the examples have for a file, in bytes.
+const FILE_ROOM: usize = 65_536;
+/// Damaged files whose set form is asked for.
+const DAMAGED: usize = 120;
+/// How many there must be of these; and each question from 1 to 11 must be met.
+const LEAST: [(&str, u64); 2] = [("set forms written", 20), ("set forms shorter than the file", 8)];
 /// The reports that `README.md` shows on P.
 const SHOWN_REPORTS: [u64; 3] = [0, 0, 0];
 
@@ -163,6 +180,68 @@ fn compare_follows(tally: &mut Tally, folder: &Folder) {
     compare_follow(tally, folder, "an empty file", &[], &[0]);
 }
 
+/// All that the example which writes a set form has on its standard output and its standard error,
+/// and its exit status, from a file.
+fn form_output(tally: &mut Tally, file: &[u8]) -> (Vec<u8>, Vec<u8>, i32) {
+    match set_form(file) {
+        Ok(form) => {
+            tally.count("set forms written");
+            if form.len() < file.len() {
+                tally.count("set forms shorter than the file");
+            }
+            (form, Vec::new(), 0)
+        }
+        Err(no) => {
+            tally.meet(no.question);
+            let said = format!("refused, question {}, place {}\n", no.question, no.place);
+            (Vec::new(), said.into_bytes(), 1)
+        }
+    }
+}
+
+/// Runs the example that writes a set form on a file.
+fn compare_form(tally: &mut Tally, folder: &Folder, case: &str, file: &[u8]) {
+    folder.put("file", Some(file));
+    tally.case = format!("the example that writes a set form on {case}");
+    tally.count("runs of the example that writes a set form");
+    let (form, said, code) = form_output(tally, file);
+    let mut command = Command::new(folder.path(SET_FORM.name));
+    let Output { status, stdout, stderr } = run_to_end(command.arg(folder.path("file")), &[]);
+    tally.hold("what it writes", &stdout, &form);
+    tally.hold("its messages and status", &(stderr, status.code()), &(said, Some(code)));
+}
+
+/// Writes the set forms of the examples, of the stick written in other ways, of rows with as many
+/// outcomes as there may be in every order, and of the largest file; and meets refusals: of damaged
+/// sticks, of an empty file, and of one that is longer than the example's room.
+fn compare_forms(tally: &mut Tally, folder: &Folder) {
+    for (name, _) in TEXTS {
+        let file = std::fs::read(path(name)).expect("an example");
+        compare_form(tally, folder, name, &file);
+    }
+    let mut random = Random::new(1);
+    for change in &SAME {
+        let mut draft = stick();
+        (change.make)(&mut random, &mut draft);
+        compare_form(tally, folder, &format!("the stick, {}", change.name), &draft.bytes());
+    }
+    for order in ORDERS {
+        for states in [3, 300] {
+            let case = format!("wide rows, {states} states, {order:?}");
+            compare_form(tally, folder, &case, &wide(&mut random, states, order).bytes());
+        }
+    }
+    compare_form(tally, folder, "the limits", &at_limits(&mut random, true, 5_000).bytes());
+    for number in 0..DAMAGED {
+        let file = damaged(&mut random, &stick());
+        compare_form(tally, folder, &format!("damaged stick {number}"), &file);
+    }
+    compare_form(tally, folder, "an empty file", &[]);
+    let mut long = stick().bytes();
+    long.resize(FILE_ROOM + 1, 0);
+    compare_form(tally, folder, "a file longer than the room", &long);
+}
+
 /// Runs both examples on a file.
 fn compare(tally: &mut Tally, folder: &Folder, case: &str, file: &[u8]) {
     folder.put("file", Some(file));
@@ -208,15 +287,15 @@ fn compare_pages(tally: &mut Tally) {
     hold_shown(tally, "../README.md", &plan_lines(&p));
     hold_shown(tally, "../README.md", &example_text(&p));
     hold_shown(tally, "../README.md", &follow_text(&p, &SHOWN_REPORTS));
-    for example in EXAMPLES.iter().chain([&FOLLOW]) {
+    for example in EXAMPLES.iter().chain([&FOLLOW, &SET_FORM]) {
         hold_shown(tally, "../README.md", example.command);
     }
 }
 
 fn main() -> ExitCode {
-    let mut tally = Tally::default();
+    let mut tally = Tally::asking(&LEAST);
     let folder = Folder::new("compare-examples");
-    for example in EXAMPLES.iter().chain([&FOLLOW]) {
+    for example in EXAMPLES.iter().chain([&FOLLOW, &SET_FORM]) {
         compile(&folder, example);
     }
     for (name, _) in TEXTS {
@@ -228,6 +307,7 @@ fn main() -> ExitCode {
     compare(&mut tally, &folder, "the limits", &at_limits(&mut random, true, 5_000).bytes());
     compare(&mut tally, &folder, "a chain", &deep_chain(&mut random, 1_024, 8, true).bytes());
     compare_follows(&mut tally, &folder);
+    compare_forms(&mut tally, &folder);
     compare_pages(&mut tally);
-    tally.close(0..=0, 0)
+    tally.close(1..=11, 1)
 }

@@ -6,7 +6,7 @@
 
 use comparisons::audit::Verdict;
 use comparisons::follower::Record;
-use comparisons::library::{self, ACCEPTED, ANSWER, DONE, PASSED, SOLVED};
+use comparisons::library::{self, ACCEPTED, ANSWER, DONE, PASSED, SOLVED, WRITTEN};
 use comparisons::limits::PLAN_ROUNDS;
 use comparisons::listing::{audit_line, planned};
 use comparisons::made::deepest;
@@ -59,6 +59,12 @@ fn report(file: &[u8], tables: &mut OwnedTables) {
     assert_eq!(code, DONE);
 }
 
+/// The product's set form of the file, into an output as long as the file.
+fn set_form(file: &[u8]) {
+    let code = library::set_form(file, &mut vec![0; file.len()], &mut [0; ANSWER]);
+    assert_eq!(code, WRITTEN);
+}
+
 /// A child's part: the named function on a thread with so many KiB of stack.
 fn child(function: &str, kib: &str) {
     let function = function.to_string();
@@ -71,6 +77,7 @@ fn child(function: &str, kib: &str) {
         "audit" => audit(&file, &mut tables),
         "open" => open(&file, &mut tables),
         "report" => report(&file, &mut tables),
+        "set_form" => set_form(&file),
         _ => check(&file),
     };
     thread.spawn(work).expect("a thread").join().expect("it ends well");
@@ -120,7 +127,7 @@ fn main() {
         assert_eq!(word, "child");
         return child(function, kib);
     }
-    for function in ["solve", "audit", "check", "open", "report"] {
+    for function in ["solve", "audit", "check", "open", "report", "set_form"] {
         println!("cuulipso_{function}: {} KiB of stack", least(|kib| library_does(function, kib)));
     }
     let file = deepest().bytes();

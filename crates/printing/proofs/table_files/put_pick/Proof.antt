@@ -1,6 +1,6 @@
 -- `put_pick` puts the two bytes, each the rest of a division by 256.
 -- Made by `places make` from answers/table_files/put_pick.ans: edit that file, and not this one.
-use Rattle.model.specs.TableFiles.{numberBytes}
+use Rattle.model.specs.Bytes.{numberBytes}
 use borrow.Author.Needs.{needs}
 use Rattle.printing.proofs.table_files.put_pick.Statement.{statement}
 use Rattle.printing.proofs.table_files.put_pick.Tie as tie

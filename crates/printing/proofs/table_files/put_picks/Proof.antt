@@ -3,7 +3,7 @@
 use Prim.Native.Nat.{_-_}
 use lib.ListN.{length, take}
 use Rattle.model.specs.TableFiles.{tableBytes}
-use Rattle.printing.proofs.Entries.{no-bytes, bytes-next, bytes-all}
+use Rattle.guarantee.specs.TableFiles.{no-bytes, bytes-next, bytes-all}
 use Rattle.printing.proofs.Putting.{same, grown-starts, grown-goes-on, grown-ends, Grown}
 use borrow.Author.Needs.{needs}
 use native.Mathlib.Omega.{arith}

@@ -1,6 +1,6 @@
 -- `put_value` puts the four bytes, each the rest of a division by 256.
 -- Made by `places make` from answers/table_files/put_value.ans: edit that file, and not this one.
-use Rattle.model.specs.TableFiles.{numberBytes}
+use Rattle.model.specs.Bytes.{numberBytes}
 use borrow.Author.Needs.{needs}
 use Rattle.printing.proofs.table_files.put_value.Statement.{statement}
 use Rattle.printing.proofs.table_files.put_value.Tie as tie

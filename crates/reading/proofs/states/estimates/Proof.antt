@@ -6,7 +6,6 @@ use lib.ListN.{length, length-set}
 use mathlib.Core.Path.{_≡_, refl}
 use Rattle.model.specs.Rounds.{fillTo}
 use Rattle.model.specs.Sections.{problemOf}
-use Rattle.reading.proofs.Places.{state-there, estimate-at}
 use borrow.Author.Needs.{needs}
 use native.Mathlib.Omega.{arith}
 use Rattle.reading.proofs.states.estimates.Statement.{statement}
@@ -22,23 +21,17 @@ loop-holds : tie.Need-loop-holds Inv-loop μ-loop
 unfolding fillTo
 loop-holds c = (omega arith, refl, refl)
 
-mul-u32-at : tie.Need-mul-u32-at Inv-loop μ-loop
-mul-u32-at c = omega (arith, state-there _ (c .before .before .before .before .pre .0) (c .before .loop .s) (omega arith))
-
-add-u32-at : tie.Need-add-u32-at Inv-loop μ-loop
-add-u32-at c = omega (arith, state-there _ (c .before .before .before .before .pre .0) (c .before .loop .s) (omega arith))
-
-u32-at-requires : tie.Need-u32-at-requires Inv-loop μ-loop
-u32-at-requires c κs = omega (arith, state-there _ (c .before .before .before .before .pre .0) (c .before .loop .s) (omega arith))
+estimate-of-requires : tie.Need-estimate-of-requires Inv-loop μ-loop
+estimate-of-requires c κs = (c .before .before .before .before .pre .0, omega arith)
 
 mul-values : tie.Need-mul-values Inv-loop μ-loop
-mul-values c = omega (arith, state-there _ (c .before .before .before .before .before .pre .0) (c .before .before .loop .s) (omega arith))
+mul-values c = omega arith
 
 slice-write-values : tie.Need-slice-write-values Inv-loop μ-loop
-slice-write-values c = omega (arith, state-there _ (c .before .before .before .before .before .pre .0) (c .before .before .loop .s) (omega arith))
+slice-write-values c = omega arith
 
 add-s : tie.Need-add-s Inv-loop μ-loop
-add-s c = omega (arith, state-there _ (c .before .before .before .before .before .pre .0) (c .before .before .loop .s) (omega arith))
+add-s c = omega arith
 
 loop-less : tie.Need-loop-less Inv-loop μ-loop
 loop-less c = search needs
@@ -46,7 +39,7 @@ loop-less c = search needs
 loop-again : tie.Need-loop-again Inv-loop μ-loop
 unfolding fillTo
 loop-again c =
-    (omega arith, simp length-set (c .before .before .loop .inv .1), rw (add-one, c .u32-at .ensures .0, estimate-at _ (c .before .before .before .before .before .pre .0), c .before .before .loop .inv .2))
+    (omega arith, simp length-set (c .before .before .loop .inv .1), rw (add-one, c .estimate-of .ensures, c .before .before .loop .inv .2))
 
 same-length : tie.Need-same-length Inv-loop μ-loop
 same-length c = search needs
@@ -61,9 +54,7 @@ estimates-spec =
     tie.close
     (tie.spec Inv-loop μ-loop
     loop-holds
-    mul-u32-at
-    add-u32-at
-    u32-at-requires
+    estimate-of-requires
     mul-values
     slice-write-values
     add-s

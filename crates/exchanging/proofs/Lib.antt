@@ -1,0 +1,7 @@
+-- Laws that the proofs of this crate cite.
+pub mod Runs
+pub mod Inserting
+pub mod Shifting
+pub mod RowLoops
+pub mod Sections
+pub mod Replies

@@ -1,0 +1,263 @@
+-- The sections of a set form: what a row's part holds, the rows by the index and the counts, and the form as a whole.
+-- An accepted file has well-formed rows; the four sections after each other are the bytes of its problem in set form.
+use mathlib.Core.Path.{_≡_, refl, sym, _∙_, ap, ap₂}
+use Prim.Native.Nat.{ℕ, zero, suc, _+_, _-_, _*_, _/_, _≤_, _<_}
+use native.Mathlib.Numerals.{add-one}
+use native.Mathlib.Omega.{arith}
+use mathlib.Core.List.{List, _∷_, _++_}
+use lib.ListN.{length, set, take, drop, length-append}
+use lib.Seq.{take-all}
+use Rattle.model.specs.Buffers.{copied}
+use Rattle.model.specs.Bytes.{numberBytes}
+use Rattle.model.specs.Encoding.{partsTo, settingBytes, stateBytes, rowBytes, outcomeBytes, outcomesTo, encode}
+use Rattle.model.specs.Limits.{settingCount, maxOutcomes}
+use Rattle.model.specs.Problem.{Problem, Outcome}
+use Rattle.model.specs.Rounds.{fillTo}
+use Rattle.model.specs.Search.{sumTo}
+use Rattle.model.specs.Sections.{problemOf, outcomeCountOf}
+use Rattle.model.specs.SetForm.{weightTo, gathered, inSetForm, setForm}
+use Rattle.model.specs.TableFiles.{tableBytes, bytes32}
+use Rattle.model.specs.Value.{totalWeight}
+use Rattle.model.specs.Walk.{In}
+use Rattle.guarantee.specs.Chances.{gathered-few, weight-high}
+use Rattle.guarantee.specs.Encodings.{encode-length, settings-long, states-long}
+use Rattle.guarantee.specs.Forms.{file-outcomes, form-encodable}
+use Rattle.guarantee.specs.Parts.{outcomes-count}
+use Rattle.guarantee.specs.Tables.{fill-next}
+use Rattle.guarantee.specs.Standing.{parts-length, parts-same}
+use Rattle.guarantee.specs.Searches.{sum-room}
+use Rattle.guarantee.specs.Sums.{sum-below}
+use Rattle.guarantee.specs.TableFiles.{number-length, bytes-append, bytes-next}
+use Rattle.guarantee.specs.WellFormed.{WellFormed, well-formed}
+use Rattle.reading.specs.Bounds.{maxByte}
+use Rattle.reading.specs.Laid.{firstState}
+use Rattle.reading.specs.RowParts.{index-seconds, outcomes-read}
+use Rattle.reading.specs.Tests.{outcomesIn}
+use Rattle.exchanging.specs.Puts.{Puts}
+use Rattle.exchanging.specs.Forms.{formOf, formCount, rowCodes, Accepted, Counted, rowAs, codeAs, FormAsked}
+use Rattle.exchanging.proofs.Inserting.{codes-length, codes-bytes}
+use Rattle.exchanging.proofs.RowLoops.{RowPart}
+use Rattle.exchanging.proofs.Runs.{Listed, listed-starts, listed-goes-on, puts-long, puts-then, puts-same}
+
+-- the part of row r of an accepted file
+module _ {f index : List ℕ} (h : Accepted f index) (part : List ℕ) (r : ℕ) (l : r < problemOf f .rows)
+    (e : outcomesIn part ≡ problemOf f .outcomes r) where
+  formed : WellFormed (problemOf f)
+  formed = well-formed f (h .passed)
+
+  pub row-part : RowPart part (problemOf f .states)
+  row-part =
+      record {
+        few = formed .states-high;
+        leads = λ o i. formed .successor-state r l o (rw e at i);
+        weighs = λ o i. formed .weight-low r l o (rw e at i);
+        total = ap totalWeight e ∙ formed .weights r l;
+      }
+
+  -- gathered, it is the row in set form
+  pub part-gathered : gathered (weightTo (outcomesIn part)) 0 (problemOf f .states) ≡ formOf f .outcomes r
+  unfolding inSetForm
+  part-gathered = ap (λ (os : List Outcome). gathered (weightTo os) 0 (problemOf f .states)) e
+
+-- how many outcomes a part has
+pub part-number : (part : List ℕ) {os : List Outcome} → outcomesIn part ≡ os → length part / 4 ≡ length os
+part-number part e = sym (outcomes-count part 0 (length part / 4)) ∙ ap length e
+
+-- the lengths of a state, and of the rows as the index and the counts have them
+
+pub state-size : (p : Problem) (s : ℕ) → length (stateBytes p s) ≡ 6
+unfolding stateBytes
+state-size p s = simp (length-append, number-length)
+
+pub row-size : (index counts : List ℕ) (r : ℕ) → length (rowAs index counts r) ≡ 4
+row-size index counts r = simp number-length
+
+pub rows-size : (index counts : List ℕ) (n : ℕ) → length (partsTo (rowAs index counts) n) ≡ 4 * n
+rows-size index counts = parts-length (rowAs index counts) (λ r. 4 * r) refl (λ r. simp number-length (omega arith))
+
+module _ {f index : List ℕ} (h : Accepted f index) where
+  -- the row's bytes are those of the problem in set form
+  rows-same
+      : (counts : List ℕ) → Counted f counts
+      → partsTo (rowAs index counts) (problemOf f .rows) ≡ partsTo (rowBytes (formOf f)) (problemOf f .rows)
+  unfolding rowBytes inSetForm
+  rows-same counts counted =
+      parts-same (rowAs index counts) (rowBytes (formOf f)) (problemOf f .rows)
+      (λ r l. ap₂ (λ n s. 0 ∷ n ∷ numberBytes 2 s) (counted .holds r l) (index-seconds (h .ready) r l))
+
+  -- no more outcomes than a file has
+  pub form-few : outcomesTo (formOf f) (problemOf f .rows) ≤ maxOutcomes
+  unfolding inSetForm
+  form-few = form-encodable f (h .passed) .outcomes-fit
+
+pub form-size
+    : (f : List ℕ)
+    → length (setForm f) ≡ firstState + 6 * problemOf f .states + 2 + 4 * problemOf f .rows + 2
+    + 4 * outcomesTo (formOf f) (problemOf f .rows)
+unfolding setForm inSetForm
+form-size f = encode-length (formOf f) ∙ omega arith
+
+-- gathering row after row
+
+-- the codes of the first k rows
+pub codes-size : (f : List ℕ) (k : ℕ) → length (partsTo (rowCodes f) k) ≡ outcomesTo (formOf f) k
+unfolding sumTo
+codes-size f =
+    parts-length (rowCodes f) (outcomesTo (formOf f)) refl
+    (λ r. ap (λ n. outcomesTo (formOf f) r + n) (sym (codes-length (formOf f .outcomes r))))
+
+-- a row has no more outcomes in set form than it had
+form-shorter : (f : List ℕ) (r : ℕ) → formCount f r ≤ length (problemOf f .outcomes r)
+unfolding inSetForm
+form-shorter f r = gathered-few (problemOf f .outcomes r) (problemOf f .states)
+
+module _ {f index : List ℕ} (h : Accepted f index) (r : ℕ) (l : r < problemOf f .rows) where
+  -- there is room for all its outcomes behind the rows before it
+  pub row-room : outcomesTo (formOf f) r + length (problemOf f .outcomes r) ≤ maxOutcomes
+  row-room =
+      let p = problemOf f in
+      let before = sum-below (formCount f) (λ k. length (p .outcomes k)) r (λ k b. form-shorter f k) in
+      omega (arith, before, sum-room (λ k. length (p .outcomes k)) r (p .rows) l, file-outcomes f (h .passed))
+
+  -- and they are no more than a byte can tell
+  pub row-few : formCount f r ≤ maxByte
+  row-few =
+      let number = ap length (outcomes-read f r) ∙ outcomes-count _ 0 (outcomeCountOf f r) in
+      omega (arith, form-shorter f r, number, h .ready .outcomes-few r)
+
+-- the loop over the rows: what is gathered stands one row after the other, and the counts are filled in
+pub record Gathered (f table₀ counts₀ table counts : List ℕ) (total n r : ℕ) : Type 0 where
+  pub listed : Listed (rowCodes f) n table₀ 0 table total r
+  pub filled : counts ≡ fillTo (formCount f) counts₀ r
+
+pub gathered-starts
+    : (f table counts : List ℕ) (n : ℕ) → outcomesTo (formOf f) n ≤ length table → Gathered f table counts table counts 0 n 0
+unfolding fillTo
+gathered-starts f table counts n h =
+    record { listed = listed-starts (rowCodes f) n table 0 (omega (arith, codes-size f n)); filled = refl }
+
+module _ {f table₀ counts₀ table counts : List ℕ} {total n r : ℕ}
+    (g : Gathered f table₀ counts₀ table counts total n r) where
+  pub total-is : total ≡ outcomesTo (formOf f) r
+  total-is = omega (arith, g .listed .put .ends, codes-size f r)
+
+  module _ {table′ : List ℕ} {end : ℕ} (put : Puts table table′ total end (rowCodes f r)) where
+    pub count-is : end - total ≡ formCount f r
+    count-is = omega (arith, put .ends, codes-length (formOf f .outcomes r))
+
+    pub gathered-goes-on
+        : r < n → Gathered f table₀ counts₀ table′ (set counts r (end - total)) end n (r + 1)
+    gathered-goes-on l =
+        record {
+          listed = listed-goes-on (g .listed) l put;
+          filled = rw (g .filled, count-is) (sym (fill-next (formCount f) counts₀ r));
+        }
+
+-- putting the codes: they are the outcomes' bytes
+
+small : {f index : List ℕ} → Accepted f index → (r : ℕ) → r < problemOf f .rows → (o : Outcome) → In o (formOf f .outcomes r)
+    → (o .successor < 65536) × (o .weight < 65536)
+unfolding inSetForm
+small {f} h r l o i =
+    let formed = form-encodable f (h .passed) .formed in (
+      omega (arith, formed .successor-state r l o i, formed .states-high),
+      omega (arith, weight-high (formOf f .outcomes r) o i, formed .weights r l),
+    )
+
+pub code-size : (table : List ℕ) (n : ℕ) → length (partsTo (codeAs table) n) ≡ 4 * n
+code-size table = parts-length (codeAs table) (λ j. 4 * j) refl (λ j. simp number-length (omega arith))
+
+codes-put : (table : List ℕ) (n : ℕ) → n ≤ length table → partsTo (codeAs table) n ≡ bytes32 (take n table)
+unfolding partsTo tableBytes
+codes-put table zero h = refl
+codes-put table (suc n) h =
+    ap (λ l. l ++ codeAs table n) (codes-put table n (omega arith)) ∙ sym (bytes-next 4 table n h)
+    ∙ ap (λ k. bytes32 (take k table)) (add-one n)
+
+rows-bytes
+    : {f index : List ℕ} → Accepted f index → (k : ℕ) → k ≤ problemOf f .rows
+    → bytes32 (partsTo (rowCodes f) k) ≡ partsTo (λ r. outcomeBytes (formOf f .outcomes r)) k
+unfolding partsTo tableBytes
+rows-bytes h zero l = refl
+rows-bytes {f} h (suc k) l =
+    bytes-append 4 (partsTo (rowCodes f) k) (rowCodes f k)
+    ∙ ap₂ _++_ (rows-bytes h k (omega arith)) (codes-bytes (formOf f .outcomes k) (small h k (omega arith)))
+
+-- the form as a whole: each section has room after the ones before it, and together they are the form
+module _ {f index counts table : List ℕ} {outcomes : ℕ} {out : List ℕ}
+    (asked : FormAsked f index counts table outcomes out) where
+  pub settings-room : firstState ≤ length out
+  settings-room = omega (arith, form-size f, asked .room)
+
+  module _ {states rows : ℕ} (states-are : states ≡ problemOf f .states) (rows-are : rows ≡ problemOf f .rows)
+      {out₁ : List ℕ} {at₁ : ℕ} (p₁ : Puts out out₁ 0 at₁ (numberBytes 2 settingCount ++ settingBytes (formOf f))) where
+    settings-end : at₁ + 2 ≡ firstState
+    settings-end =
+        let size = length-append (numberBytes 2 settingCount) (settingBytes (formOf f)) in
+        omega (arith, p₁ .ends, size, number-length 2 settingCount, settings-long (formOf f))
+
+    pub states-room : at₁ + 2 + 6 * states ≤ length out₁
+    states-room = omega (arith, form-size f, asked .room, puts-long p₁, settings-end, states-are)
+
+    module _ {out₂ : List ℕ} {at₂ : ℕ}
+        (p₂ : Puts out₁ out₂ at₁ at₂ (numberBytes 2 states ++ partsTo (stateBytes (formOf f)) states)) where
+      states-end : at₂ ≡ firstState + 6 * states
+      states-end =
+          let size = length-append (numberBytes 2 states) (partsTo (stateBytes (formOf f)) states) in
+          omega (arith, p₂ .ends, size, number-length 2 states, states-long (formOf f) states, settings-end)
+
+      pub rows-room : at₂ + 2 + 4 * rows ≤ length out₂
+      rows-room =
+          omega (arith, form-size f, asked .room, puts-long p₁, puts-long p₂, states-end, states-are, rows-are)
+
+      module _ {out₃ : List ℕ} {at₃ : ℕ}
+          (p₃ : Puts out₂ out₃ at₂ at₃ (numberBytes 2 rows ++ partsTo (rowAs index counts) rows)) where
+        rows-end : at₃ ≡ firstState + 6 * states + 2 + 4 * rows
+        rows-end =
+            let size = length-append (numberBytes 2 rows) (partsTo (rowAs index counts) rows) in
+            omega (arith, p₃ .ends, size, number-length 2 rows, rows-size index counts rows, states-end)
+
+        pub outcomes-room : at₃ + 2 + 4 * outcomes ≤ length out₃
+        outcomes-room =
+            omega (
+              arith,
+              form-size f,
+              asked .room,
+              asked .outcomes-are,
+              puts-long p₁,
+              puts-long p₂,
+              puts-long p₃,
+              rows-end,
+              states-are,
+              rows-are,
+            )
+
+        module _ {out₄ : List ℕ} {at₄ : ℕ}
+            (p₄ : Puts out₃ out₄ at₃ at₄ (numberBytes 2 outcomes ++ partsTo (codeAs table) outcomes)) where
+          last : partsTo (codeAs table) outcomes ≡ partsTo (λ r. outcomeBytes (formOf f .outcomes r)) (problemOf f .rows)
+          last =
+              codes-put table outcomes (asked .table-long)
+              ∙ ap bytes32 (asked .coded)
+              ∙ rows-bytes (asked .accepted) (problemOf f .rows) (omega arith)
+
+          whole : Puts out out₄ 0 at₄ (setForm f)
+          unfolding setForm encode inSetForm
+          whole =
+              puts-same (puts-then p₁ (puts-then p₂ (puts-then p₃ p₄)))
+              (ap (λ l. (numberBytes 2 settingCount ++ settingBytes (formOf f)) ++ l)
+              (ap₂ _++_
+              (ap (λ n. numberBytes 2 n ++ partsTo (stateBytes (formOf f)) n) states-are)
+              (ap₂ _++_
+              (ap (λ n. numberBytes 2 n ++ partsTo (rowAs index counts) n) rows-are
+              ∙ ap (λ l. numberBytes 2 (problemOf f .rows) ++ l) (rows-same (asked .accepted) counts (asked .counted)))
+              (ap₂ (λ n l. numberBytes 2 n ++ l) (asked .outcomes-are) last))))
+
+          pub form-long : length out₄ ≡ length out
+          form-long = puts-long whole
+
+          pub form-put : out₄ ≡ copied (setForm f) out
+          form-put =
+              let end : at₄ ≡ length (setForm f) = omega (arith, whole .ends) in
+              whole .left
+              ∙ ap₂ _++_ (sym (take-all (length out) (setForm f) (asked .room)))
+              (ap (λ n. drop n out) end)

@@ -1,0 +1,62 @@
+-- `put_rows` puts the count, and then row after row.
+-- Made by `places make` from answers/form/put_rows.ans: edit that file, and not this one.
+use Prim.Native.Nat.{_-_}
+use Rattle.exchanging.specs.Forms.{rowAs}
+use Rattle.exchanging.proofs.Runs.{Listed, listed-starts, listed-room, listed-goes-on, listed-ends}
+use Rattle.exchanging.proofs.Runs.{puts-then, puts-long, number-ends}
+use Rattle.exchanging.proofs.Sections.{row-size, rows-size}
+use native.Mathlib.Omega.{arith}
+use Rattle.exchanging.proofs.form.put_rows.Statement.{statement}
+use Rattle.exchanging.proofs.form.put_rows.Tie as tie
+
+abbrev Inv-loop : tie.InvT-loop
+Inv-loop index counts n out₀ at to₀ r₀ out to r = Listed (rowAs index counts) n out₀ to₀ out to r
+
+abbrev μ-loop : tie.MeasureT-loop
+μ-loop index counts n out₀ at to₀ r₀ out to r = n - r
+
+cast-put16 : tie.Need-cast-put16 Inv-loop μ-loop
+cast-put16 c = omega arith
+
+put16-requires : tie.Need-put16-requires Inv-loop μ-loop
+put16-requires c κs = omega (arith, c .before .before .pre .1)
+
+loop-holds : tie.Need-loop-holds Inv-loop μ-loop
+loop-holds c =
+    listed-starts (rowAs (c .before .before .before .before .before .args .index .now) (c .before .before .before .before .before .args .counts .now)) (c .before .before .before .before .before .args .n) _ _
+    (omega (arith, c .before .before .before .before .before .pre .1, number-ends 2 _ (c .before .before .put16 .ensures), rows-size (c .before .before .before .before .before .args .index .now) (c .before .before .before .before .before .args .counts .now) (c .before .before .before .before .before .args .n)))
+
+put-row-requires : tie.Need-put-row-requires Inv-loop μ-loop
+put-row-requires c κs = (
+  omega (arith, c .before .before .before .before .before .before .before .before .pre .0),
+  omega (arith, listed-room (c .before .before .loop .inv) (c .before .loop-test .taken), row-size (c .before .before .before .before .before .before .before .before .args .index .now) (c .before .before .before .before .before .before .before .before .args .counts .now) (c .before .before .loop .r)),
+)
+
+add-r : tie.Need-add-r Inv-loop μ-loop
+add-r c = omega arith
+
+loop-less : tie.Need-loop-less Inv-loop μ-loop
+loop-less c = omega arith
+
+loop-again : tie.Need-loop-again Inv-loop μ-loop
+loop-again c = listed-goes-on (c .before .before .before .before .before .loop .inv) (c .before .before .before .before .loop-test .taken) (c .before .before .put-row .ensures)
+
+same-length : tie.Need-same-length Inv-loop μ-loop
+same-length c = puts-long (puts-then (c .before .before .before .before .put16 .ensures) (c .before .loop .inv .put))
+
+returns : tie.Need-returns Inv-loop μ-loop
+returns c = puts-then (c .before .before .before .before .put16 .ensures) (listed-ends (c .before .loop .inv) (c .loop-test .left))
+
+pub put-rows-spec : {M : Type 1} → statement M
+put-rows-spec =
+    tie.close
+    (tie.spec Inv-loop μ-loop
+    cast-put16
+    put16-requires
+    loop-holds
+    put-row-requires
+    add-r
+    loop-less
+    loop-again
+    same-length
+    returns)

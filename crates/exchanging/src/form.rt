@@ -1,0 +1,189 @@
+// The sections of a set form, one after the other, at the front of a buffer that has room for them.
+use crate::gathering::gather_row;
+use crate::putting::put8;
+use crate::putting::put16;
+use crate::putting::put32;
+use model::MAX_OUTCOMES;
+use model::MAX_ROWS;
+use model::SETTING_COUNT;
+use reading::index::INDEX;
+use reading::layout::FIRST_STATE;
+use reading::layout::layout_of;
+use reading::outcomes::seconds_of;
+use reading::settings::settings_of;
+use reading::states::estimate_of;
+use reading::states::is_goal;
+use reading::states::row_count_of;
+ghost use mathlib.Core.Path.{_≡_};
+ghost use mathlib.Core.List.{_++_};
+ghost use Prim.Native.Nat.{_+_, _*_, _≤_, _<_};
+ghost use lib.ListN.{length};
+ghost use Rattle.model.specs.Buffers.{copied};
+ghost use Rattle.model.specs.Bytes.{numberBytes};
+ghost use Rattle.model.specs.Encoding.{partsTo, settingBytes, goalByte, stateBytes};
+ghost use Rattle.model.specs.Limits.{settingCount, maxStates, maxRows, maxOutcomes};
+ghost use Rattle.model.specs.Questions.{passes, layoutQuestions};
+ghost use Rattle.model.specs.Rounds.{fillTo};
+ghost use Rattle.model.specs.Sections.{problemOf};
+ghost use Rattle.model.specs.SetForm.{setForm};
+ghost use Rattle.reading.specs.Laid.{firstState};
+ghost use Rattle.exchanging.specs.Puts.{Puts};
+ghost use Rattle.exchanging.specs.Forms.{formOf, formCount, rowCodes, Accepted, rowAs, codeAs, FormAsked};
+
+// Gathers the outcomes of the rows into the table, one row after the other, and fills in how many each has. Answers how many there
+// are in all.
+pub fn gather_rows(
+    file: &[u8],
+    index: &[u32; INDEX],
+    rows: usize,
+    table: &mut [u32; MAX_OUTCOMES],
+    counts: &mut [u8; MAX_ROWS],
+) -> usize
+    requires { ⌜ Accepted (now file) (now index) × (rows ≡ problemOf (now file) .rows)
+        × (length (now table) ≡ maxOutcomes) ⌝ }
+    ensures { λ r.
+        ⌜ Puts (now (table .entry)) (now (table .exit)) 0 r (partsTo (rowCodes (now (file .entry))) rows)
+        × (now (counts .exit) ≡ fillTo (formCount (now (file .entry))) (now (counts .entry)) rows) ⌝ }
+{
+    let mut total = 0;
+    let mut r = 0;
+    while r < rows {
+        let end = gather_row(file, index, r, table, total);
+        counts[r] = (end - total) as u8;
+        total = end;
+        r += 1;
+    }
+    total
+}
+
+// How long the form of so many states, rows and outcomes is.
+pub fn form_length(states: usize, rows: usize, outcomes: usize) -> usize
+    requires { ⌜ (states ≤ maxStates) × (rows ≤ maxRows) × (outcomes ≤ maxOutcomes) ⌝ }
+    ensures { λ r. ⌜ r ≡ firstState + 6 * states + 2 + 4 * rows + 2 + 4 * outcomes ⌝ }
+{
+    FIRST_STATE + 6 * states + 2 + 4 * rows + 2 + 4 * outcomes
+}
+
+// Puts the settings at the front, after their count.
+fn put_settings(file: &[u8], out: &mut [u8]) -> usize
+    requires { ⌜ (layoutQuestions (now file) ≡ passes) × (firstState ≤ length (now out)) ⌝ }
+    ensures { λ r.
+        ⌜ Puts
+        (now (out .entry)) (now (out .exit)) 0 r
+        (numberBytes 2 settingCount ++ settingBytes (formOf (now (file .entry)))) ⌝ }
+{
+    let set = settings_of(file);
+    let at1 = put16(out, 0, SETTING_COUNT);
+    let at2 = put32(out, at1, set.start);
+    let at3 = put32(out, at2, set.tolerance);
+    put32(out, at3, set.penalty)
+}
+
+// The byte of a goal, or of a state that is none.
+fn goal_byte(goal: bool) -> u8
+    ensures { λ r. ⌜ r ≡ goalByte goal ⌝ }
+{
+    if goal { 1 } else { 0 }
+}
+
+// Puts state s.
+fn put_state(file: &[u8], s: usize, out: &mut [u8], at: usize) -> usize
+    requires { ⌜ (layoutQuestions (now file) ≡ passes) × (s < problemOf (now file) .states) × (at + 6 ≤ length (now out)) ⌝ }
+    ensures { λ r. ⌜ Puts (now (out .entry)) (now (out .exit)) at r (stateBytes (formOf (now (file .entry))) s) ⌝ }
+{
+    let at1 = put32(out, at, estimate_of(file, s));
+    let at2 = put8(out, at1, row_count_of(file, s) as u8);
+    put8(out, at2, goal_byte(is_goal(file, s)))
+}
+
+// Puts the n states, after their count.
+fn put_states(file: &[u8], n: usize, out: &mut [u8], at: usize) -> usize
+    requires { ⌜ (layoutQuestions (now file) ≡ passes) × (n ≡ problemOf (now file) .states) × (n ≤ maxStates)
+        × (at + 2 + 6 * n ≤ length (now out)) ⌝ }
+    ensures { λ r.
+        ⌜ Puts
+        (now (out .entry)) (now (out .exit)) at r
+        (numberBytes 2 n ++ partsTo (stateBytes (formOf (now (file .entry)))) n) ⌝ }
+{
+    let mut to = put16(out, at, n as u32);
+    let mut s = 0;
+    while s < n {
+        to = put_state(file, s, out, to);
+        s += 1;
+    }
+    to
+}
+
+// Puts row r: kind 0, its number of outcomes, its seconds.
+fn put_row(
+    index: &[u32; INDEX],
+    counts: &[u8; MAX_ROWS],
+    r: usize,
+    out: &mut [u8],
+    at: usize,
+) -> usize
+    requires { ⌜ (r < maxRows) × (at + 4 ≤ length (now out)) ⌝ }
+    ensures { λ to.
+        ⌜ Puts (now (out .entry)) (now (out .exit)) at to (rowAs (now (index .entry)) (now (counts .entry)) r) ⌝ }
+{
+    let at1 = put8(out, at, 0);
+    let at2 = put8(out, at1, counts[r]);
+    put16(out, at2, seconds_of(index, r))
+}
+
+// Puts the n rows, after their count.
+fn put_rows(
+    index: &[u32; INDEX],
+    counts: &[u8; MAX_ROWS],
+    n: usize,
+    out: &mut [u8],
+    at: usize,
+) -> usize
+    requires { ⌜ (n ≤ maxRows) × (at + 2 + 4 * n ≤ length (now out)) ⌝ }
+    ensures { λ r.
+        ⌜ Puts
+        (now (out .entry)) (now (out .exit)) at r
+        (numberBytes 2 n ++ partsTo (rowAs (now (index .entry)) (now (counts .entry))) n) ⌝ }
+{
+    let mut to = put16(out, at, n as u32);
+    let mut r = 0;
+    while r < n {
+        to = put_row(index, counts, r, out, to);
+        r += 1;
+    }
+    to
+}
+
+// Puts the n outcomes whose codes the table has, after their count.
+fn put_outcomes(table: &[u32; MAX_OUTCOMES], n: usize, out: &mut [u8], at: usize) -> usize
+    requires { ⌜ (n ≤ maxOutcomes) × (at + 2 + 4 * n ≤ length (now out)) ⌝ }
+    ensures { λ r.
+        ⌜ Puts (now (out .entry)) (now (out .exit)) at r (numberBytes 2 n ++ partsTo (codeAs (now (table .entry))) n) ⌝ }
+{
+    let mut to = put16(out, at, n as u32);
+    let mut i = 0;
+    while i < n {
+        to = put32(out, to, table[i]);
+        i += 1;
+    }
+    to
+}
+
+// Puts the whole form at the front.
+pub fn put_form(
+    file: &[u8],
+    index: &[u32; INDEX],
+    counts: &[u8; MAX_ROWS],
+    table: &[u32; MAX_OUTCOMES],
+    outcomes: usize,
+    out: &mut [u8],
+)
+    requires { ⌜ FormAsked (now file) (now index) (now counts) (now table) outcomes (now out) ⌝ }
+    ensures { λ _. ⌜ now (out .exit) ≡ copied (setForm (now (file .entry))) (now (out .entry)) ⌝ }
+{
+    let l = layout_of(file);
+    let at1 = put_settings(file, out);
+    let at2 = put_states(file, l.states, out, at1);
+    let at3 = put_rows(index, counts, l.rows, out, at2);
+    put_outcomes(table, outcomes, out, at3);
+}
