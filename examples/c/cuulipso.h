@@ -26,7 +26,7 @@ enum { CUULIPSO_NO_PICK = 65534, CUULIPSO_GIVE_UP = 65535, CUULIPSO_NO_STATE = 6
 /* Entries that are always enough: states for values, picks and walk, rows for remembered. */
 enum { CUULIPSO_STATES = 1024, CUULIPSO_ROWS = 4096, CUULIPSO_ANSWER = 3 };
 
-/* Puts questions 1 to 11 to a problem file. */
+/* Puts questions 1 to 11 to a problem file; 24, about the fourth setting, belongs to them and comes right after 4. */
 uint8_t cuulipso_check(const uint8_t *file, size_t file_length,
                        uint64_t *answer, size_t answer_length);
 
@@ -51,7 +51,7 @@ uint8_t cuulipso_audit(const uint8_t *file, size_t file_length,
                        int64_t *answer, size_t answer_length);
 
 /* Writes a problem file's set form at the front of out: the same problem with each row's outcomes by rising successor, repeats added
- * together, and all costs in seconds. Two accepted files have equal set forms exactly when they say the same problem: the same settings,
+ * together, all costs in seconds, and no fourth setting where it is 1,000. Two accepted files have equal set forms exactly when they say the same problem: the same settings,
  * estimates, goals, number of rows at each state and row costs, and the same total chance from each row to each state. After questions
  * 1 to 11 the call meets 23, place 0, where out is shorter than the form; an output as long as the file is always enough. The rest of
  * out stays, and on a refusal nothing is written there. */

@@ -3,6 +3,7 @@
 
 use crate::limits::GIVE_UP;
 use crate::problem::Problem;
+use crate::totals::by_total;
 
 /// "Accepted, where questions 1 to 11 and 15 to 19 all say yes, carries C. The audit's refusals
 /// carry an excess."
@@ -27,15 +28,20 @@ pub fn audit_file(file: &[u8], values: &[u32], picks: &[u16]) -> Verdict {
 
 /// Audits tables for a problem: questions 15 to 19 in order.
 pub fn audit(problem: &Problem, values: &[u32], picks: &[u16]) -> Verdict {
+    by_total!(problem.total, W => audit_in::<W>(problem, values, picks))
+}
+
+/// Audits tables for a problem whose weight total is W.
+fn audit_in<const W: u32>(problem: &Problem, values: &[u32], picks: &[u16]) -> Verdict {
     let asked = ask_lengths(problem, values, picks)
         .or_else(|| ask_values(problem, values))
-        .or_else(|| ask_rows(problem, values));
+        .or_else(|| ask_rows::<W>(problem, values));
     if let Some(verdict) = asked {
         return verdict;
     }
     let reached = reached_states(problem, picks);
     ask_picks(problem, picks, &reached)
-        .or_else(|| ask_closeness(problem, values, picks, &reached))
+        .or_else(|| ask_closeness::<W>(problem, values, picks, &reached))
         .unwrap_or_else(|| Verdict::Accepted { least_cost: least_cost(problem, picks, &reached) })
 }
 
@@ -55,10 +61,10 @@ fn ask_values(problem: &Problem, values: &[u32]) -> Option<Verdict> {
 
 /// "Is V at most every row value of its state? 17 (row)." The excess is V(s) minus row value. Every
 /// row of every state is asked, picked or not, reached or not.
-fn ask_rows(problem: &Problem, values: &[u32]) -> Option<Verdict> {
+fn ask_rows<const W: u32>(problem: &Problem, values: &[u32]) -> Option<Verdict> {
     for (state, &value) in problem.states.iter().zip(values) {
         for row in state.rows() {
-            let excess = i64::from(value) - i64::from(problem.row_value(row, values));
+            let excess = i64::from(value) - i64::from(problem.row_value_in::<W>(row, values));
             if excess > 0 {
                 return Some(refused(17, row, excess));
             }
@@ -122,7 +128,7 @@ fn ask_picks(problem: &Problem, picks: &[u16], reached: &[bool]) -> Option<Verdi
 
 /// "Is each reached pick's value at most V + e − 1, goals aside? 19 (state)." The excess is V(s)
 /// minus the pick's value or 1000 × D.
-fn ask_closeness(
+fn ask_closeness<const W: u32>(
     problem: &Problem,
     values: &[u32],
     picks: &[u16],
@@ -130,7 +136,7 @@ fn ask_closeness(
 ) -> Option<Verdict> {
     for state in asked_states(problem, reached) {
         let value = match pick_of(problem, picks, state) {
-            Pick::Row(row) => problem.row_value(row, values),
+            Pick::Row(row) => problem.row_value_in::<W>(row, values),
             _ => problem.give_up_cost,
         };
         let excess = i64::from(values[state]) - i64::from(value);

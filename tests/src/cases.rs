@@ -1,14 +1,15 @@
-//! The starred items of "Melt-room cases" and the cases of requests E1 and E3, a test or two each.
+//! The starred items of "Melt-room cases" and the cases of requests E1, E3 and E7, a test or two each.
 
 use crate::audit::{audit_file, Verdict};
 use crate::encode::Draft;
-use crate::examples::{file_p, one_state, p_with_penalty};
+use crate::examples::{file_p, one_state, p_with_penalty, with_total};
 use crate::limits::*;
 use crate::listing::{plan_lines, planned_within};
 use crate::made::made;
 use crate::problem::{average, seconds_of, Outcome, Problem, Refusal};
 use crate::random::Random;
 use crate::solver::{solve, Answer, OwnedTables, Run};
+use crate::totals::{total_of, Fourth, FOURTHS};
 
 /// The refusal of a draft's file, if it is refused.
 fn refusal(draft: &Draft) -> Option<Refusal> {
@@ -78,11 +79,12 @@ fn rates_9_and_1001_meet_question_8() {
     }
 }
 
-/// The average of weights on values.
+/// The average of weights on values, in the total that they add to.
 fn average_of(weights: &[u16], values: &[u32]) -> u32 {
     let outcome = |(at, &weight): (usize, &u16)| Outcome { successor: at as u16, weight };
     let outcomes: Vec<Outcome> = weights.iter().enumerate().map(outcome).collect();
-    average(&outcomes, values)
+    let total = weights.iter().map(|&weight| u32::from(weight)).sum();
+    average(&outcomes, values, total)
 }
 
 #[test]
@@ -90,6 +92,17 @@ fn averages_round_down_once() {
     assert_eq!(average_of(&[500, 500], &[1, 1]), 1);
     assert_eq!(average_of(&[1, 999], &[999, 0]), 0);
     assert_eq!(average_of(&[1, 999], &[1_000, 0]), 1);
+}
+
+/// E7: "W replaces 1,000 in the division of the row value".
+#[test]
+fn averages_round_down_once_in_each_total() {
+    for total in TOTALS {
+        let all = total as u16;
+        assert_eq!(average_of(&[all / 2, all / 2], &[1, 1]), 1);
+        assert_eq!(average_of(&[1, all - 1], &[total - 1, 0]), 0);
+        assert_eq!(average_of(&[1, all - 1], &[total, 0]), 1);
+    }
 }
 
 #[test]
@@ -186,7 +199,7 @@ fn ties_between_rows_go_to_the_earlier_pick_and_then_to_row_order() {
 fn slipping(back: u16) -> Draft {
     let mut draft = Draft::new(0, 1, 5_000);
     draft.add_state();
-    draft.add_row(KIND_SECONDS, 1, &[(0, back), (1, WEIGHT_TOTAL as u16 - back)]);
+    draft.add_row(KIND_SECONDS, 1, &[(0, back), (1, USUAL_TOTAL as u16 - back)]);
     draft.add_goal();
     draft
 }
@@ -238,8 +251,9 @@ fn row_value_and_remainder_are_the_exact_sum() {
             let sum = problem.outcomes[row.outcomes()].iter().fold(0, |sum, outcome| {
                 sum + u64::from(outcome.weight) * u64::from(values[usize::from(outcome.successor)])
             });
-            assert!(remainder <= 999);
-            assert_eq!(u64::from(WEIGHT_TOTAL) * average + remainder, sum);
+            let total = u64::from(problem.total);
+            assert!(remainder < total, "remainders run below W");
+            assert_eq!(total * average + remainder, sum);
         }
     }
 }
@@ -250,4 +264,87 @@ fn no_row_value_outgrows_32_bits() {
     let dearest = u64::from(TICKS) * u64::from(u16::MAX);
     let most = u64::from(TICKS) * u64::from(MAX_PENALTY);
     assert!(dearest + most <= u64::from(u32::MAX));
+}
+
+/// P in a total.
+fn p_in_total(fourth: Fourth) -> Draft {
+    with_total(&file_p(), fourth)
+}
+
+/// E7: chances out of 100, 1,000 and 10,000 are the same chances, so P is the same plan. In 4,096 its
+/// row 0 leads to 1 with 3,687: 3,687 × 300,000 = 4,096 × 270,043 + 3,872.
+#[test]
+fn p_is_planned_in_each_total() {
+    for fourth in [None, Some(100), Some(1_000), Some(10_000)] {
+        assert_eq!(lines(&p_in_total(fourth)), lines(&file_p()), "{fourth:?}");
+    }
+    let asked = "solved 3 5 100000\n0 370043 0 3872\n1 300000 2 0\n";
+    assert_eq!(lines(&p_in_total(Some(4_096))), asked);
+}
+
+/// "Remainders run below W."
+#[test]
+fn remainders_run_below_the_total() {
+    for fourth in FOURTHS {
+        let total = total_of(fourth);
+        let mut draft = slipping(1).with_fourth(fourth);
+        draft.outcomes[1].weight = total as u16 - 1;
+        let problem = Problem::read(&draft.bytes()).expect("whole");
+        let remainder = |value| problem.row_remainder(0, &[value, 0]);
+        let values = [0, 1, total - 1, total, 2 * total - 1];
+        assert_eq!(values.map(remainder), [0, 1, total - 1, 0, total - 1]);
+    }
+}
+
+/// "Settings may have count 4": 2 at the settings for any other count, and where the file ends inside
+/// the fourth setting, 1.
+#[test]
+fn settings_have_count_3_or_4() {
+    for count in [0, 1, 2, 5, 6] {
+        let mut draft = p_in_total(Some(1_000));
+        draft.settings.resize(count, 1_000);
+        assert_eq!(refusal(&draft), Some(Refusal { question: 2, place: 0 }), "{count}");
+    }
+    let file = p_in_total(Some(1_000)).bytes();
+    for length in 2..18 {
+        let asked = Some(Refusal { question: 1, place: 0 });
+        assert_eq!(Problem::read(&file[..length]).err(), asked, "{length}");
+    }
+    assert_eq!(Problem::read(&file[..18]).err(), Some(Refusal { question: 1, place: 1 }));
+}
+
+/// "24 when the fourth setting isn't one of these, asked after the third under place 3": after the
+/// settings of question 4, and before the states.
+#[test]
+fn question_24_follows_question_4() {
+    let mut draft = file_p().with_fourth(Some(999));
+    draft.states[0].goal = 2;
+    assert_eq!(refusal(&draft), Some(Refusal { question: 24, place: 3 }));
+    for (place, value) in [(2, 0), (1, 0), (0, 3)] {
+        draft.settings[place] = value;
+        assert_eq!(refusal(&draft), Some(Refusal { question: 4, place: place as u64 }));
+    }
+    draft.settings = vec![0, 1, 5_000, 1_000];
+    assert_eq!(refusal(&draft), Some(Refusal { question: 5, place: 0 }));
+}
+
+/// "W replaces 1,000 in the weight range, the row total": a weight of W passes, one of W + 1 does not,
+/// and no row adds to another total than the file's.
+#[test]
+fn weights_and_rows_have_the_files_total() {
+    let asked = |place| Some(Refusal { question: 10, place });
+    for fourth in FOURTHS {
+        let draft = p_in_total(fourth);
+        assert_eq!(refusal(&draft), None);
+        let mut above = draft.clone();
+        above.outcomes[3].weight += 1;
+        assert_eq!(refusal(&above), asked(2));
+        let other = |other: &Fourth| total_of(*other) != total_of(fourth);
+        for other in FOURTHS.into_iter().filter(other) {
+            assert_eq!(refusal(&draft.clone().with_fourth(other)), asked(0), "{fourth:?}");
+            let mut row = draft.clone();
+            row.outcomes[2].weight = total_of(other) as u16;
+            assert_eq!(refusal(&row), asked(1), "{fourth:?}");
+        }
+    }
 }

@@ -3,8 +3,38 @@
 
 use crate::encode::Draft;
 use crate::limits::*;
-use crate::problem::Problem;
+use crate::made::any_weights;
+use crate::problem::{refused, Problem, Refusal};
 use crate::random::Random;
+use crate::totals::FOURTHS;
+
+/// Fourth settings that are no total: beside one, and those of which some of the bits are one.
+pub const NO_TOTALS: [u32; 24] = [
+    0,
+    1,
+    99,
+    101,
+    999,
+    1_001,
+    4_095,
+    4_097,
+    9_999,
+    10_001,
+    65_535,
+    65_536,
+    65_536 + 100,
+    65_536 + 1_000,
+    65_536 + 4_096,
+    65_536 + 10_000,
+    100 << 16,
+    1_000 << 16,
+    4_096 << 16,
+    10_000 << 16,
+    (1 << 24) + 1_000,
+    1 << 31,
+    (1 << 31) + 1_000,
+    u32::MAX,
+];
 
 /// A file made from a draft and then broken, mostly once, sometimes twice or more so that the order
 /// of the questions matters. Some come out whole all the same.
@@ -24,7 +54,7 @@ pub fn damaged(random: &mut Random, draft: &Draft) -> Vec<u8> {
 
 /// Breaks one item, or adds one too many.
 fn damage_items(random: &mut Random, draft: &mut Draft) {
-    match random.below(11) {
+    match random.below(12) {
         0 => damage_lengths(random, draft),
         1 => damage_setting(random, draft),
         2 => damage_state(random, draft),
@@ -33,6 +63,7 @@ fn damage_items(random: &mut Random, draft: &mut Draft) {
         5..=6 => damage_row(random, draft),
         7 => damage_outcome_number(random, draft),
         8..=9 => damage_outcome(random, draft),
+        10 => damage_total(random, draft),
         _ => raise_estimate(random, draft),
     }
 }
@@ -40,8 +71,8 @@ fn damage_items(random: &mut Random, draft: &mut Draft) {
 /// Item counts at or past the ends of their ranges: questions 2, 7 and 9.
 fn damage_lengths(random: &mut Random, draft: &mut Draft) {
     match random.below(8) {
-        0 => draft.settings.truncate(2),
-        1 => draft.settings.push(1_000),
+        0 => draft.settings.truncate(SETTINGS - 1),
+        1 => draft.settings.resize(MOST_SETTINGS + 1, USUAL_TOTAL),
         2 => draft.states.clear(),
         3 => repeat_to(&mut draft.states, MAX_STATES + random.below(2)),
         4 => repeat_to(&mut draft.rows, MAX_ROWS + random.below(2)),
@@ -58,7 +89,7 @@ fn repeat_to<T: Copy>(items: &mut Vec<T>, length: usize) {
     }
 }
 
-/// A setting at or past the ends of its range: question 4.
+/// One of the first three settings at or past the ends of its range: question 4.
 fn damage_setting(random: &mut Random, draft: &mut Draft) {
     let states = draft.states.len() as u32;
     let (setting, value) = match random.below(3) {
@@ -152,18 +183,22 @@ fn damage_outcome_number(random: &mut Random, draft: &mut Draft) {
     }
 }
 
-/// An outcome against section 3: question 10. Shifted weights may still add to 1,000.
+/// An outcome against section 3: question 10. Shifted weights may still add to the total.
 fn damage_outcome(random: &mut Random, draft: &mut Draft) {
     if draft.outcomes.is_empty() {
         return;
     }
     let states = draft.states.len() as u16;
+    let (total, other) = (draft.total() as u16, random.pick(&TOTALS) as u16);
     let number = random.below(draft.outcomes.len());
     let next = (number + 1) % draft.outcomes.len();
     let outcome = &mut draft.outcomes[number];
     match random.below(6) {
         0 => outcome.successor = random.pick(&[states, states + 1, states - 1, u16::MAX, 256]),
-        1 => outcome.weight = random.pick(&[0, 1, 1_000, 1_001, u16::MAX]),
+        1 => {
+            let weights = [0, 1, total, total.wrapping_add(1), other, other + 1, u16::MAX];
+            outcome.weight = random.pick(&weights);
+        }
         2 => outcome.weight = outcome.weight.wrapping_add(1),
         3 => outcome.weight = outcome.weight.wrapping_sub(1),
         4 => {
@@ -174,6 +209,34 @@ fn damage_outcome(random: &mut Random, draft: &mut Draft) {
             let weight = std::mem::replace(&mut outcome.weight, 0);
             let total = draft.outcomes[next].weight.wrapping_add(weight);
             draft.outcomes[next].weight = total;
+        }
+    }
+}
+
+/// The fourth setting none of the totals: question 24. Or one of them, or none at all, where the rows
+/// add to another; or one row that adds to another total than the file's: question 10.
+fn damage_total(random: &mut Random, draft: &mut Draft) {
+    match random.below(4) {
+        0..=1 => *draft = draft.clone().with_fourth(Some(random.pick(&NO_TOTALS))),
+        2 => *draft = draft.clone().with_fourth(random.pick(&FOURTHS)),
+        _ => damage_row_total(random, draft),
+    }
+}
+
+/// A row's weights, such that they add to any total.
+fn damage_row_total(random: &mut Random, draft: &mut Draft) {
+    if draft.rows.is_empty() {
+        return;
+    }
+    let (row, total) = (random.below(draft.rows.len()), random.pick(&TOTALS));
+    let first = draft.rows[..row].iter().map(|row| usize::from(row.outcomes)).sum::<usize>();
+    let number = usize::from(draft.rows[row].outcomes);
+    let Some(outcomes) = draft.outcomes.get_mut(first..first + number) else {
+        return;
+    };
+    if (1..=total as usize).contains(&number) {
+        for (outcome, weight) in outcomes.iter_mut().zip(any_weights(random, number, total)) {
+            outcome.weight = weight;
         }
     }
 }
@@ -238,7 +301,7 @@ fn damage_count(random: &mut Random, file: &mut [u8], draft: &Draft) {
         return;
     };
     let old = u16::from_le_bytes([count[0], count[1]]);
-    let most = [SETTINGS, MAX_STATES, MAX_ROWS, MAX_OUTCOMES][section] as u16;
+    let most = [MOST_SETTINGS, MAX_STATES, MAX_ROWS, MAX_OUTCOMES][section] as u16;
     let by_one = [old.wrapping_add(1), old.wrapping_sub(1)];
     let new = random.pick(&[by_one[0], by_one[1], 0, most, most + 1, u16::MAX]);
     count.copy_from_slice(&new.to_le_bytes());
@@ -252,5 +315,69 @@ fn change_bytes(random: &mut Random, file: &mut [u8]) {
     for _ in 0..1 + random.below(3) {
         let at = random.below(file.len());
         file[at] = random.bits() as u8;
+    }
+}
+
+/// A file with one thing wrong for each of the questions 1 to 11, in the order in which they are put,
+/// and the refusal of each. They are made from a whole file that begins with a state that has rows and
+/// is the start, and ends with a goal. Of the first two questions it is the states' section that fails,
+/// so that the file tells its total.
+pub fn one_wrong_each(draft: &Draft) -> Vec<(Refusal, Vec<u8>)> {
+    let (states, total) = (draft.states.len(), draft.total());
+    let with = |change: fn(&mut Draft, u32)| {
+        let mut draft = draft.clone();
+        change(&mut draft, total);
+        draft.bytes()
+    };
+    let cut = draft.bytes()[..section_starts(draft)[2] - 1].to_vec();
+    let one_more = [&draft.bytes()[..], &[0]].concat();
+    vec![
+        (refused(1, 1), cut),
+        (refused(2, 1), with(|draft, _| draft.states.clear())),
+        (refused(3, 3), one_more),
+        (refused(4, 2), with(|draft, _| draft.settings[2] = MAX_PENALTY + 1)),
+        (refused(24, 3), with(|draft, total| *draft = draft.clone().with_fourth(Some(total + 1)))),
+        (refused(5, 0), with(|draft, _| draft.states[0].goal = 2)),
+        (
+            refused(6, states - 1),
+            with(|draft, _| draft.settings[0] = draft.states.len() as u32 - 1),
+        ),
+        (refused(7, 0), with(|draft, _| draft.states[0].rows += 1)),
+        (refused(8, 0), with(|draft, _| draft.rows[0].kind = 2)),
+        (refused(9, 0), with(|draft, _| draft.rows[0].outcomes += 1)),
+        (refused(10, 0), with(|draft, total| draft.outcomes[0].weight = total as u16 + 1)),
+        (refused(11, 0), with(|draft, _| draft.states[0].estimate = TICKS * draft.settings[2])),
+    ]
+}
+
+#[cfg(test)]
+mod tests {
+    use super::*;
+    use crate::examples::{file_p, stick, with_total};
+    use crate::problem::FILE_QUESTIONS;
+    use crate::totals::told_by;
+
+    #[test]
+    fn each_thing_wrong_meets_its_question() {
+        for (way, fourth) in FOURTHS.into_iter().enumerate() {
+            for draft in [file_p(), stick()] {
+                let draft = with_total(&draft, fourth);
+                let wrong = one_wrong_each(&draft);
+                assert!(wrong.iter().map(|(refusal, _)| refusal.question).eq(FILE_QUESTIONS));
+                for (refusal, file) in wrong {
+                    assert_eq!(Problem::read(&file).err(), Some(refusal), "{fourth:?}");
+                    let tells = refusal.question != 24;
+                    assert_eq!(told_by(&file), tells.then_some(way), "{fourth:?}, {refusal:?}");
+                }
+            }
+        }
+    }
+
+    #[test]
+    fn no_total_is_let_pass() {
+        for fourth in NO_TOTALS {
+            let file = file_p().with_fourth(Some(fourth)).bytes();
+            assert_eq!(Problem::read(&file).err(), Some(refused(24, 3)), "{fourth}");
+        }
     }
 }

@@ -1,7 +1,8 @@
 //! Writes problem files. A draft holds the items as they will stand in the file, so that it can be
 //! damaged at any of them before its bytes are made.
 
-use crate::limits::MAX_IN_BYTE;
+use crate::limits::{MAX_IN_BYTE, SETTINGS};
+use crate::totals::{total_of, Fourth};
 
 /// A state's 6 bytes.
 #[derive(Clone, Copy, Debug)]
@@ -29,7 +30,7 @@ pub struct OutcomeItem {
 /// A file's items, section by section.
 #[derive(Clone, Debug)]
 pub struct Draft {
-    /// Start state, tolerance, penalty.
+    /// Start state, tolerance, penalty, and the weight total where it is told by count 4.
     pub settings: Vec<u32>,
     pub states: Vec<StateItem>,
     pub rows: Vec<RowItem>,
@@ -37,10 +38,22 @@ pub struct Draft {
 }
 
 impl Draft {
-    /// A draft with its settings and nothing else.
+    /// A draft with three settings and nothing else.
     pub fn new(start: u32, tolerance: u32, penalty: u32) -> Draft {
         let settings = vec![start, tolerance, penalty];
         Draft { settings, states: Vec::new(), rows: Vec::new(), outcomes: Vec::new() }
+    }
+
+    /// The draft with a fourth setting, or with the other three alone.
+    pub fn with_fourth(mut self, fourth: Fourth) -> Draft {
+        self.settings.truncate(SETTINGS);
+        self.settings.extend(fourth);
+        self
+    }
+
+    /// The weight total that its settings tell.
+    pub fn total(&self) -> u32 {
+        total_of(self.settings.get(SETTINGS).copied())
     }
 
     /// Adds a goal.

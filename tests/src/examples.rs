@@ -1,6 +1,7 @@
 //! The files of the repository's `examples` folder, from their readable texts.
 
 use crate::encode::Draft;
+use crate::totals::{in_total, Fourth};
 use crate::written::Written;
 
 /// The readable texts and the files beside them, by name.
@@ -36,6 +37,11 @@ pub fn one_state() -> Draft {
 /// A stick on its day in the melt room; `stick.md` tells it.
 pub fn stick() -> Draft {
     draft_of(2)
+}
+
+/// An example with its total told in a way, its chances as near to what they were as that total can say.
+pub fn with_total(example: &Draft, fourth: Fourth) -> Draft {
+    in_total(example, fourth).expect("an example has few outcomes")
 }
 
 /// The path of a file of the folder.

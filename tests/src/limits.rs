@@ -5,6 +5,8 @@ pub const TICKS: u32 = 1_000;
 
 /// "Section 0, settings, count 3."
 pub const SETTINGS: usize = 3;
+/// E7: "Settings may have count 4, the fourth being the weight total W".
+pub const MOST_SETTINGS: usize = 4;
 /// "Section 1, states, count 1 to 1,024."
 pub const MAX_STATES: usize = 1_024;
 /// "Section 2, rows, count 0 to 4,096."
@@ -45,8 +47,10 @@ pub const MILLIMETRE: u32 = 600;
 /// E5: "for each of the stick lengths 250, 500, 550 and 1,000 mm in turn".
 pub const STICK_LENGTHS: [u32; 4] = [250, 500, 550, 1_000];
 
-/// "A row's weights add to 1,000."
-pub const WEIGHT_TOTAL: u32 = 1_000;
+/// E7: "With count 3, W is 1,000."
+pub const USUAL_TOTAL: u32 = 1_000;
+/// E7: "the weight total W: 100, 1,000, 4,096 or 10,000".
+pub const TOTALS: [u32; 4] = [100, USUAL_TOTAL, 4_096, 10_000];
 
 /// A pick of 65,535: giving up. In a walk list: no state.
 pub const GIVE_UP: u16 = 65_535;

@@ -50,9 +50,11 @@ pub fn plan_lines(file: &[u8]) -> String {
     planned(file).lines
 }
 
-/// How many state lines of `plan` end with a remainder above 0.
-pub fn remainders_above_0(lines: &str) -> u64 {
-    lines.lines().skip(1).filter(|line| !line.ends_with(" 0")).count() as u64
+/// How many state lines of `plan` end with a remainder of at least so much.
+pub fn remainders_from(least: u32, lines: &str) -> u64 {
+    let remainder = |line: &str| line.rsplit(' ').next().and_then(|word| word.parse().ok());
+    let remainders = lines.lines().skip(1).filter_map(remainder);
+    remainders.filter(|&remainder: &u32| remainder >= least).count() as u64
 }
 
 /// The line of `audit`: `accepted` C, or `refused` number place excess.
@@ -72,7 +74,7 @@ fn refusal_line(refusal: Refusal) -> String {
 
 /// "For each state of the last walk, by state number: state, value, row or `give`." And since E3:
 /// "Each state line of `plan` ends with the remainder of its pick under the final values, 0 for
-/// `give`."
+/// `give`." Since E7 "Remainders run below W".
 fn state_lines(problem: &Problem, tables: &OwnedTables) -> String {
     let mut walked: Vec<u16> = tables.walk.iter().copied().filter(|&s| s != GIVE_UP).collect();
     walked.sort_unstable();

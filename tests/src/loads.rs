@@ -2,8 +2,9 @@
 //! goal, e 1, D 5,000, all H 0.
 
 use crate::encode::Draft;
-use crate::limits::{KIND_SECONDS, MAX_OUTCOMES, WEIGHT_TOTAL};
+use crate::limits::{KIND_SECONDS, MAX_OUTCOMES};
 use crate::random::Random;
+use crate::totals::Fourth;
 
 /// The penalty of every load, in seconds.
 const PENALTY: u32 = 5_000;
@@ -27,20 +28,21 @@ pub const LOADS: [Load; 4] = [
 ];
 
 impl Load {
-    /// The load's file for a number of states.
-    pub fn file(&self, random: &mut Random, states: usize) -> Vec<u8> {
-        self.draft(random, states).bytes()
+    /// The load's file for a number of states and a way to tell the total.
+    pub fn file(&self, random: &mut Random, states: usize, fourth: Fourth) -> Vec<u8> {
+        self.draft(random, states, fourth).bytes()
     }
 
     /// The draft behind it.
-    pub fn draft(&self, random: &mut Random, states: usize) -> Draft {
-        let mut draft = Draft::new(0, 1, PENALTY);
+    pub fn draft(&self, random: &mut Random, states: usize, fourth: Fourth) -> Draft {
+        let mut draft = Draft::new(0, 1, PENALTY).with_fourth(fourth);
+        let total = draft.total() as usize;
         for state in 0..states - 1 {
             draft.add_state();
             for _ in 0..ROWS {
                 let successors = (self.successors)(random, state, states);
                 let cost = random.between(1, DEAREST) as u16;
-                draft.add_row(KIND_SECONDS, cost, &weighted(random, &successors));
+                draft.add_row(KIND_SECONDS, cost, &weighted(random, &successors, total));
             }
         }
         draft.add_goal();
@@ -48,9 +50,9 @@ impl Load {
     }
 }
 
-/// Successors with weights that add to 1,000, each within what an even share leaves.
-fn weighted(random: &mut Random, successors: &[usize]) -> Vec<(u16, u16)> {
-    let mut rest = WEIGHT_TOTAL as usize;
+/// Successors with weights that add to a total, each within what an even share leaves.
+fn weighted(random: &mut Random, successors: &[usize], total: usize) -> Vec<(u16, u16)> {
+    let mut rest = total;
     let mut outcomes = Vec::new();
     for (at, &successor) in successors.iter().enumerate() {
         let left = successors.len() - at;
@@ -89,13 +91,15 @@ fn many(random: &mut Random, _: usize, states: usize) -> Vec<usize> {
 mod tests {
     use super::*;
     use crate::problem::Problem;
+    use crate::totals::FOURTHS;
 
     #[test]
     fn loads_are_whole() {
         let mut random = Random::new(4);
-        for load in &LOADS {
+        for (load, fourth) in LOADS.iter().flat_map(|load| FOURTHS.map(|fourth| (load, fourth))) {
             for states in [16, 64, 256, 1_024] {
-                assert!(Problem::read(&load.file(&mut random, states)).is_ok(), "{}", load.name);
+                let file = load.file(&mut random, states, fourth);
+                assert!(Problem::read(&file).is_ok(), "{}, {fourth:?}", load.name);
             }
         }
     }

@@ -1,10 +1,11 @@
-//! Made-up problem files, whole ones: many shapes, from a seed. Every draft made here passes
-//! questions 1 to 11; `damage.rs` breaks them.
+//! Made-up problem files, whole ones: many shapes, from a seed, in all weight totals. Every draft made
+//! here passes questions 1 to 11; `damage.rs` breaks them.
 
 use crate::encode::Draft;
 use crate::limits::*;
 use crate::problem::Problem;
 use crate::random::Random;
+use crate::totals::any_fourth;
 
 /// How a made problem's rows lead from state to state.
 #[derive(Clone, Copy, Debug, PartialEq, Eq)]
@@ -49,12 +50,13 @@ fn any_size(random: &mut Random) -> usize {
     }
 }
 
-/// A problem of a shape, all H 0.
+/// A problem of a shape, in any total, all H 0.
 pub fn shaped(random: &mut Random, shape: Shape, states: usize) -> Draft {
     let goals = any_goals(random, states);
     let start = (0..).map(|_| random.below(states)).find(|&state| !goals[state]);
-    let mut draft =
-        Draft::new(start.unwrap_or(0) as u32, any_tolerance(random), any_penalty(random));
+    let (start, tolerance) = (start.unwrap_or(0) as u32, any_tolerance(random));
+    let mut draft = Draft::new(start, tolerance, any_penalty(random));
+    draft = draft.with_fourth(any_fourth(random));
     let barren = random.pick(&[2, 5, 50, 1_000]);
     for (state, &goal) in goals.iter().enumerate() {
         if goal {
@@ -88,7 +90,7 @@ fn any_goals(random: &mut Random, states: usize) -> Vec<bool> {
 }
 
 /// A tolerance, the ends of its range often.
-fn any_tolerance(random: &mut Random) -> u32 {
+pub fn any_tolerance(random: &mut Random) -> u32 {
     match random.below(6) {
         0..=2 => 1,
         3 => MAX_TOLERANCE,
@@ -157,14 +159,17 @@ fn any_successors(random: &mut Random, shape: Shape, state: usize, states: usize
     list.into_iter().map(|successor| successor as u16).collect()
 }
 
-/// Adds a row to the last state, with any cost and any weights, where the file has room for it.
-fn add_any_row(random: &mut Random, draft: &mut Draft, successors: &[u16]) {
+/// Adds a row to the last state, with any cost and any weights, where the file has room for it. It has
+/// no more outcomes than the total has units, since each weighs at least 1.
+pub fn add_any_row(random: &mut Random, draft: &mut Draft, successors: &[u16]) {
+    let total = draft.total();
+    let successors = &successors[..successors.len().min(total as usize)];
     let outcomes = draft.outcomes.len() + successors.len();
     if draft.rows.len() == MAX_ROWS || outcomes > MAX_OUTCOMES {
         return;
     }
     let (kind, cost) = any_cost(random);
-    let weights = any_weights(random, successors.len());
+    let weights = any_weights(random, successors.len(), total);
     let outcomes: Vec<(u16, u16)> = successors.iter().copied().zip(weights).collect();
     draft.add_row(kind, cost, &outcomes);
 }
@@ -183,9 +188,9 @@ pub fn any_cost(random: &mut Random) -> (u8, u16) {
     }
 }
 
-/// Weights that add to 1,000: nearly even, all 1 but one, or anything.
-pub fn any_weights(random: &mut Random, outcomes: usize) -> Vec<u16> {
-    let total = WEIGHT_TOTAL as usize;
+/// So many weights that add to a total: nearly even, all 1 but one, or anything.
+pub fn any_weights(random: &mut Random, outcomes: usize, total: u32) -> Vec<u16> {
+    let total = total as usize;
     let mut weights = vec![1; outcomes];
     let mut rest = total - outcomes;
     match random.below(3) {
@@ -253,6 +258,7 @@ pub fn tied(random: &mut Random) -> Draft {
     seconds[0] = penalty;
     seconds.push(0);
     let mut draft = Draft::new(0, any_tolerance(random), penalty);
+    draft = draft.with_fourth(any_fourth(random));
     for state in 0..goal {
         draft.add_state();
         for _ in 0..1 + random.below(4) {
@@ -270,7 +276,8 @@ fn add_tied_row(random: &mut Random, draft: &mut Draft, seconds: &[u32], state: 
     let nearer: Vec<usize> =
         (0..seconds.len()).filter(|&other| seconds[other] < seconds[state]).collect();
     let (one, two) = (random.pick(&nearer), random.pick(&nearer));
-    let (half, all) = (WEIGHT_TOTAL as u16 / 2, WEIGHT_TOTAL as u16);
+    let all = draft.total() as u16;
+    let half = all / 2;
     let cost = seconds[state] - seconds[one];
     let dearer = cost + random.between(1, 20);
     let mean = (seconds[one] + seconds[two]) / 2;
@@ -288,133 +295,34 @@ fn add_tied_row(random: &mut Random, draft: &mut Draft, seconds: &[u32], state: 
     draft.add_row(KIND_SECONDS, cost as u16, &outcomes);
 }
 
-/// A file at all three limits: 1,024 states, 4,096 rows, 8,192 outcomes, two to a row. With a goal
-/// the start has the four rows that the goal lacks.
-pub fn at_limits(random: &mut Random, with_goal: bool, penalty: u32) -> Draft {
-    let mut draft = Draft::new(0, any_tolerance(random), penalty);
-    let rows_each = MAX_ROWS / MAX_STATES;
-    for state in 0..MAX_STATES {
-        if with_goal && state == MAX_STATES - 1 {
-            draft.add_goal();
-            continue;
-        }
-        draft.add_state();
-        let extra = if with_goal && state == 0 { rows_each } else { 0 };
-        for _ in 0..rows_each + extra {
-            let successors = [random.below(MAX_STATES) as u16, random.below(MAX_STATES) as u16];
-            add_any_row(random, &mut draft, &successors);
-        }
-    }
-    draft
-}
-
-/// A chain on which the walk goes as deep as it gets: state after state, each reached by the last
-/// outcome of the row before, whose other outcomes all lead to marked states. Ends in a goal, or in
-/// a state without rows.
-pub fn deep_chain(random: &mut Random, states: usize, outcomes: usize, with_goal: bool) -> Draft {
-    let mut draft = Draft::new(0, any_tolerance(random), MAX_PENALTY);
-    let back_weight = 1;
-    let on_weight = WEIGHT_TOTAL as u16 - back_weight * (outcomes as u16 - 1);
-    for state in 0..states - 1 {
-        draft.add_state();
-        let mut row = vec![(state as u16, back_weight); outcomes];
-        row[outcomes - 1] = (state as u16 + 1, on_weight);
-        draft.add_row(KIND_SECONDS, random.between(1, 30) as u16, &row);
-    }
-    if with_goal {
-        draft.add_goal();
-    } else {
-        draft.add_state();
-    }
-    draft
-}
-
-/// A chain at all three limits, each state reached by the row before: the deepest walk in the
-/// largest file. Ends in a goal; the start has the four rows that it lacks.
-pub fn deepest() -> Draft {
-    let mut draft = Draft::new(0, 1, MAX_PENALTY);
-    let rows_each = (MAX_ROWS / MAX_STATES) as u16;
-    for state in 0..MAX_STATES as u16 - 1 {
-        draft.add_state();
-        let extra = if state == 0 { rows_each } else { 0 };
-        for cost in 1..=rows_each + extra {
-            draft.add_row(KIND_SECONDS, cost, &[(state, 1), (state + 1, 999)]);
-        }
-    }
-    draft.add_goal();
-    draft
-}
-
-/// A file whose run is still going after 1,000,000 rounds: a loop that is left about once in
-/// 200,000 moves, at one second a move.
-pub fn endless() -> Draft {
-    let mut draft = Draft::new(0, 1, MAX_PENALTY);
-    draft.add_state();
-    draft.add_row(KIND_SECONDS, 1, &[(0, 999), (1, 1)]);
-    draft.add_state();
-    draft.add_row(KIND_SECONDS, 1, &[(0, 995), (2, 5)]);
-    draft.add_goal();
-    draft
-}
-
-/// A file whose run is still going after 1,000,000 rounds and whose walk lists a dozen states: a loop
-/// as above, left through one of ten states, each with a cost and a chance of its own.
-pub fn endless_fan(random: &mut Random) -> Draft {
-    let goal = 12;
-    let mut draft = Draft::new(0, 1, MAX_PENALTY);
-    draft.add_state();
-    draft.add_row(KIND_SECONDS, 1, &[(0, 999), (1, 1)]);
-    draft.add_state();
-    let fan: Vec<(u16, u16)> = (2..goal).map(|state| (state, 10)).collect();
-    draft.add_row(KIND_SECONDS, 1, &[&[(0, 900)], &fan[..]].concat());
-    for _ in 2..goal {
-        let (cost, on) = (random.between(1, 600) as u16, random.between(40, 60) as u16);
-        draft.add_state();
-        draft.add_row(KIND_SECONDS, cost, &[(0, WEIGHT_TOTAL as u16 - on), (goal, on)]);
-    }
-    draft.add_goal();
-    draft
-}
-
 #[cfg(test)]
 mod tests {
     use super::*;
-    use crate::listing::plan_lines;
+    use crate::totals::FOURTHS;
 
     #[test]
-    fn made_files_are_whole() {
+    fn made_files_are_whole_in_every_total() {
         let mut random = Random::new(1);
+        let mut made_files = [0; FOURTHS.len()];
         for _ in 0..2_000 {
-            assert!(Problem::read(&made(&mut random).bytes()).is_ok());
+            let draft = made(&mut random);
+            let problem = Problem::read(&draft.bytes()).expect("whole");
+            let way = FOURTHS.iter().position(|&way| way == draft.settings.get(SETTINGS).copied());
+            made_files[way.expect("a way to tell a total")] += 1;
+            assert_eq!(problem.total, draft.total());
         }
-    }
-
-    #[test]
-    fn files_at_the_limits_are_whole() {
-        let mut random = Random::new(2);
-        for with_goal in [false, true] {
-            let draft = at_limits(&mut random, with_goal, 5_000);
-            assert_eq!((draft.states.len(), draft.rows.len()), (MAX_STATES, MAX_ROWS));
-            assert_eq!(draft.outcomes.len(), MAX_OUTCOMES);
-            assert!(Problem::read(&draft.bytes()).is_ok());
-            assert!(Problem::read(&deep_chain(&mut random, 1_024, 8, with_goal).bytes()).is_ok());
-        }
-    }
-
-    #[test]
-    fn the_deepest_file_is_at_the_limits() {
-        let problem = Problem::read(&deepest().bytes()).expect("whole");
-        assert_eq!((problem.states.len(), problem.rows.len()), (MAX_STATES, MAX_ROWS));
-        assert_eq!(problem.outcomes.len(), MAX_OUTCOMES);
-        assert_eq!(plan_lines(&deepest().bytes()).lines().count(), MAX_STATES);
+        assert!(made_files.iter().all(|&count| count >= 200), "{made_files:?}");
     }
 
     #[test]
     fn weights_add_to_the_total() {
         let mut random = Random::new(3);
-        for outcomes in 1..=MAX_IN_BYTE {
-            let weights = any_weights(&mut random, outcomes);
-            assert_eq!(weights.iter().map(|&w| u32::from(w)).sum::<u32>(), WEIGHT_TOTAL);
+        for total in TOTALS {
+            for outcomes in 1..=MAX_IN_BYTE.min(total as usize) {
+                let weights = any_weights(&mut random, outcomes, total);
+                assert!(weights.iter().all(|&weight| weight >= 1));
+                assert_eq!(weights.iter().map(|&w| u32::from(w)).sum::<u32>(), total);
+            }
         }
     }
 }

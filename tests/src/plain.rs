@@ -160,9 +160,11 @@ pub fn plain_run(
 #[cfg(test)]
 mod tests {
     use super::*;
-    use crate::made::{at_limits, made};
+    use crate::extremes::at_limits;
+    use crate::made::made;
     use crate::random::Random;
     use crate::solver::solve;
+    use crate::totals::FOURTHS;
 
     /// Runs both at a budget and holds answers and tables against each other.
     fn compare(problem: &Problem, budget: u64) {
@@ -184,7 +186,9 @@ mod tests {
     #[test]
     fn tuned_and_plain_runs_are_the_same_at_the_limits() {
         let mut random = Random::new(6);
-        let file = at_limits(&mut random, true, 5_000).bytes();
-        compare(&Problem::read(&file).expect("whole"), 100);
+        for fourth in FOURTHS {
+            let file = at_limits(&mut random, true, 5_000, fourth).bytes();
+            compare(&Problem::read(&file).expect("whole"), 100);
+        }
     }
 }

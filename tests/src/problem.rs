@@ -1,8 +1,13 @@
 //! The problem file of document 01, read from its bytes: questions 1 to 11 in order, each no with
-//! the first place that fails, then decoded arrays.
+//! the first place that fails, then decoded arrays. Since E7, "wherever a stretch of questions that
+//! holds 4 is named, 24 belongs to it", here and in the other files too.
 
 use crate::limits::*;
+use crate::totals::by_total;
 use std::ops::Range;
+
+/// Questions 1 to 11 in the order in which they are put: 24 is "asked after the third" setting of 4.
+pub const FILE_QUESTIONS: [u64; 12] = [1, 2, 3, 4, 24, 5, 6, 7, 8, 9, 10, 11];
 
 /// "A no ends the call with the number and a place."
 #[derive(Clone, Copy, Debug, PartialEq, Eq)]
@@ -52,7 +57,7 @@ impl Row {
     }
 }
 
-/// "Successor state (16 bits), weight w (16 bits, 1 to 1,000)."
+/// "Successor state (16 bits), weight w (16 bits, 1 to 1,000)"; since E7, 1 to W.
 #[derive(Clone, Copy, Debug)]
 pub struct Outcome {
     pub successor: u16,
@@ -68,6 +73,8 @@ pub struct Problem {
     pub tolerance: u32,
     /// 1000 × D, in ticks: what giving up costs.
     pub give_up_cost: u32,
+    /// The weight total W.
+    pub total: u32,
     /// H of each state, in ticks.
     pub estimates: Vec<u32>,
     /// Whether each state is a goal.
@@ -90,11 +97,12 @@ impl Problem {
         let sections = cut_sections(file)?;
         let items = |section: usize| &file[sections[section].clone()];
         let state_count = items(1).len() / STATE_BYTES;
-        let [start, tolerance, penalty] = read_settings(items(0), state_count)?;
+        let [start, tolerance, penalty, total] = read_settings(items(0), state_count)?;
         let mut problem = Problem {
             start: start as usize,
             tolerance,
             give_up_cost: TICKS * penalty,
+            total,
             estimates: Vec::with_capacity(state_count),
             goals: Vec::with_capacity(state_count),
             states: Vec::with_capacity(state_count),
@@ -105,8 +113,10 @@ impl Problem {
         };
         problem.read_states(items(1), items(2).len() / ROW_BYTES)?;
         problem.read_rows(items(2), items(3).len() / OUTCOME_BYTES)?;
-        problem.read_outcomes(items(3))?;
-        problem.weigh_estimates()?;
+        by_total!(total, W => {
+            problem.read_outcomes::<W>(items(3))?;
+            problem.weigh_estimates::<W>()?;
+        });
         Ok(problem)
     }
 
@@ -162,8 +172,9 @@ impl Problem {
         Ok(())
     }
 
-    /// "Are each row's successors states, its weights in range, its total 1,000? 10 (row)."
-    fn read_outcomes(&mut self, items: &[u8]) -> Result<(), Refusal> {
+    /// "Are each row's successors states, its weights in range, its total 1,000? 10 (row)." Since E7
+    /// "W replaces 1,000 in the weight range, the row total".
+    fn read_outcomes<const W: u32>(&mut self, items: &[u8]) -> Result<(), Refusal> {
         self.outcomes.extend(items.chunks_exact(OUTCOME_BYTES).map(|item| Outcome {
             successor: u16::from_le_bytes([item[0], item[1]]),
             weight: u16::from_le_bytes([item[2], item[3]]),
@@ -173,13 +184,13 @@ impl Problem {
             let mut total = 0;
             for outcome in &self.outcomes[row.outcomes()] {
                 let weight = u32::from(outcome.weight);
-                let in_range = (1..=WEIGHT_TOTAL).contains(&weight);
+                let in_range = (1..=W).contains(&weight);
                 if usize::from(outcome.successor) >= state_count || !in_range {
                     return Err(refused(10, number));
                 }
                 total += weight;
             }
-            if total != WEIGHT_TOTAL {
+            if total != W {
                 return Err(refused(10, number));
             }
         }
@@ -187,10 +198,10 @@ impl Problem {
     }
 
     /// "Is H of each row's state at most the row value under H? 11 (row)." Keeps the row values.
-    fn weigh_estimates(&mut self) -> Result<(), Refusal> {
+    fn weigh_estimates<const W: u32>(&mut self) -> Result<(), Refusal> {
         for (state, &estimate) in self.states.iter().zip(&self.estimates) {
             for row in state.rows() {
-                let value = self.row_value(row, &self.estimates);
+                let value = self.row_value_in::<W>(row, &self.estimates);
                 if estimate > value {
                     return Err(refused(11, row));
                 }
@@ -201,22 +212,25 @@ impl Problem {
     }
 
     /// The row value under a table: "1000 × c plus the sum of w × V(successor) divided by 1,000,
-    /// rounded down once, after the sum."
-    #[inline]
+    /// rounded down once, after the sum." Since E7 W replaces 1,000 in the division.
     pub fn row_value(&self, row: usize, values: &[u32]) -> u32 {
         let row = &self.rows[row];
-        row.cost + average(&self.outcomes[row.outcomes()], values)
+        row.cost + average(&self.outcomes[row.outcomes()], values, self.total)
+    }
+
+    /// The row value where the total is known to be W.
+    #[inline(always)]
+    pub fn row_value_in<const W: u32>(&self, row: usize, values: &[u32]) -> u32 {
+        let row = &self.rows[row];
+        row.cost + average(&self.outcomes[row.outcomes()], values, W)
     }
 
     /// E3: "The row value shall come with its remainder, 0 to 999, wherever it is computed." What
-    /// rounding down takes away from it, in thousandths of a tick. No round needs it, so it has a
-    /// sum of its own.
+    /// rounding down takes away from it, in W-ths of a tick: since E7 "Remainders run below W". No
+    /// round needs it, so it has a sum of its own.
     pub fn row_remainder(&self, row: usize, values: &[u32]) -> u32 {
-        let weighted = |outcome: &Outcome| {
-            u64::from(outcome.weight) * u64::from(values[usize::from(outcome.successor)])
-        };
-        let sum: u64 = self.outcomes[self.rows[row].outcomes()].iter().map(weighted).sum();
-        (sum % u64::from(WEIGHT_TOTAL)) as u32
+        let sum = weighted_sum(&self.outcomes[self.rows[row].outcomes()], values);
+        (sum % u64::from(self.total)) as u32
     }
 
     /// "Looking up a state gives back its rows as a stretch of the caller's bytes." None where the
@@ -234,18 +248,21 @@ pub fn lookup(file: &[u8], state: u64) -> &[u8] {
     stretch.map_or(&[], |stretch| &file[stretch])
 }
 
-/// The sum of w × V(successor) divided by 1,000, rounded down once.
+/// The sum of w × V(successor) divided by W, rounded down once.
 ///
 /// On an accepted file, under a table of values of at most 1000 × D, it is at most 400,000,000.
-#[inline]
-pub fn average(outcomes: &[Outcome], values: &[u32]) -> u32 {
-    let sum: u64 = outcomes
-        .iter()
-        .map(|outcome| {
-            u64::from(outcome.weight) * u64::from(values[usize::from(outcome.successor)])
-        })
-        .sum();
-    (sum / u64::from(WEIGHT_TOTAL)) as u32
+#[inline(always)]
+pub fn average(outcomes: &[Outcome], values: &[u32], total: u32) -> u32 {
+    (weighted_sum(outcomes, values) / u64::from(total)) as u32
+}
+
+/// The sum of w × V(successor).
+#[inline(always)]
+fn weighted_sum(outcomes: &[Outcome], values: &[u32]) -> u64 {
+    let weighted = |outcome: &Outcome| {
+        u64::from(outcome.weight) * u64::from(values[usize::from(outcome.successor)])
+    };
+    outcomes.iter().map(weighted).sum()
 }
 
 /// The seconds of a row: "Kind 0: c seconds, 1 to 65,535. Kind 1: melt rate r, 10 to 1,000; c is
@@ -269,13 +286,19 @@ fn state_obeys(estimate: u32, row_number: u8, goal: u8, give_up_cost: u32) -> bo
     }
 }
 
-/// "Is the start below the state count, then e, then D in range? 4 (setting 0 to 2)."
-fn read_settings(items: &[u8], state_count: usize) -> Result<[u32; SETTINGS], Refusal> {
+/// "Is the start below the state count, then e, then D in range? 4 (setting 0 to 2)." And since E7:
+/// "24 when the fourth setting isn't one of these, asked after the third under place 3". "With count 3,
+/// W is 1,000."
+fn read_settings(items: &[u8], state_count: usize) -> Result<[u32; MOST_SETTINGS], Refusal> {
     let setting = |number: usize| {
         let at = SETTING_BYTES * number;
         u32::from_le_bytes([items[at], items[at + 1], items[at + 2], items[at + 3]])
     };
     let [start, tolerance, penalty] = [setting(0), setting(1), setting(2)];
+    let total = match items.len() / SETTING_BYTES {
+        MOST_SETTINGS => setting(SETTINGS),
+        _ => USUAL_TOTAL,
+    };
     if start >= state_count as u32 {
         return Err(refused(4, 0));
     }
@@ -285,7 +308,10 @@ fn read_settings(items: &[u8], state_count: usize) -> Result<[u32; SETTINGS], Re
     if !(1..=MAX_PENALTY).contains(&penalty) {
         return Err(refused(4, 2));
     }
-    Ok([start, tolerance, penalty])
+    if !TOTALS.contains(&total) {
+        return Err(refused(24, 3));
+    }
+    Ok([start, tolerance, penalty, total])
 }
 
 /// The range of a section's count and the bytes of one of its items.
@@ -297,7 +323,7 @@ struct Section {
 
 /// "Four sections in this order, each after its 16-bit count."
 const SECTIONS: [Section; 4] = [
-    Section { least: SETTINGS, most: SETTINGS, item_bytes: SETTING_BYTES },
+    Section { least: SETTINGS, most: MOST_SETTINGS, item_bytes: SETTING_BYTES },
     Section { least: 1, most: MAX_STATES, item_bytes: STATE_BYTES },
     Section { least: 0, most: MAX_ROWS, item_bytes: ROW_BYTES },
     Section { least: 0, most: MAX_OUTCOMES, item_bytes: OUTCOME_BYTES },

@@ -1,5 +1,5 @@
 //! E6, one agreed form for exchange: what two files for one problem share, the set form made from
-//! that, and what a call of it leaves.
+//! that, and what a call of it leaves. With E7 a form tells its weight total.
 
 use crate::encode::Draft;
 use crate::library::{asked_of_lent, REFUSED, WRITTEN};
@@ -12,8 +12,9 @@ use std::collections::BTreeMap;
 /// state have equal set forms, and only such files do."
 #[derive(Clone, Debug, PartialEq, Eq)]
 pub struct Meaning {
-    /// Start state, tolerance, penalty.
-    settings: [u32; SETTINGS],
+    /// Start state, tolerance, penalty, weight total. E7: "settings with the same W by either count
+    /// are equal settings."
+    settings: [u32; MOST_SETTINGS],
     estimates: Vec<u32>,
     goals: Vec<bool>,
     /// The number of rows at each state.
@@ -28,7 +29,12 @@ impl Meaning {
     /// The meaning of a problem.
     pub fn of(problem: &Problem) -> Meaning {
         Meaning {
-            settings: [problem.start as u32, problem.tolerance, problem.give_up_cost / TICKS],
+            settings: [
+                problem.start as u32,
+                problem.tolerance,
+                problem.give_up_cost / TICKS,
+                problem.total,
+            ],
             estimates: problem.estimates.clone(),
             goals: problem.goals.clone(),
             row_numbers: problem.states.iter().map(|state| state.rows().len()).collect(),
@@ -38,10 +44,12 @@ impl Meaning {
     }
 
     /// The set form: "Costs become kind 0. Outcomes of a row stand in rising successor number, repeats
-    /// added together. Rows and states keep their numbers."
+    /// added together. Rows and states keep their numbers." And E7: "The set form writes count 3 if W
+    /// is 1,000".
     pub fn form(&self) -> Vec<u8> {
-        let [start, tolerance, penalty] = self.settings;
-        let mut draft = Draft::new(start, tolerance, penalty);
+        let [start, tolerance, penalty, total] = self.settings;
+        let fourth = (total != USUAL_TOTAL).then_some(total);
+        let mut draft = Draft::new(start, tolerance, penalty).with_fourth(fourth);
         let mut rows = self.costs.iter().zip(&self.chances);
         for (state, &estimate) in self.estimates.iter().enumerate() {
             match self.goals[state] {
@@ -112,10 +120,11 @@ pub fn left_by(form: &Result<Vec<u8>, Refusal>, output: &[u8], answer: &[u64]) -
 #[cfg(test)]
 mod tests {
     use super::*;
-    use crate::examples::{file_p, one_state};
+    use crate::examples::{file_p, one_state, with_total};
     use crate::library::TOO_SHORT;
     use crate::made::made;
     use crate::random::Random;
+    use crate::totals::FOURTHS;
 
     /// P with its costs in seconds: rate 1,000 costs 600. Its outcomes already stand in order.
     const FORM_OF_P: [u8; 66] = [
@@ -209,6 +218,41 @@ mod tests {
         });
         assert_eq!((many.len(), one.len()), (1_056, 40));
         assert_eq!(set_form(&many), Ok(one));
+    }
+
+    /// E7: "The set form writes count 3 if W is 1,000; settings with the same W by either count are equal
+    /// settings." P by count 4 is 70 bytes long.
+    #[test]
+    fn a_total_of_1000_has_count_3() {
+        let by_count_4 = file_p().with_fourth(Some(1_000)).bytes();
+        assert_eq!(by_count_4.len(), 70);
+        assert_eq!(set_form(&by_count_4), Ok(FORM_OF_P.to_vec()));
+    }
+
+    /// P in 10,000, its costs in seconds.
+    #[test]
+    fn another_total_has_count_4() {
+        let mut asked = FORM_OF_P.to_vec();
+        asked.splice(0..1, [4]);
+        asked.splice(14..14, [0x10, 0x27, 0, 0]);
+        let weights = [0x28, 0x23, 2, 0, 0xe8, 0x03, 2, 0, 0x10, 0x27, 2, 0, 0x10, 0x27];
+        asked.splice(56.., weights);
+        let file = with_total(&file_p(), Some(10_000)).bytes();
+        assert_eq!(set_form(&file), Ok(asked.clone()));
+        assert_eq!(set_form(&asked), Ok(asked));
+    }
+
+    /// The smallest file has no row, and yet its total is one of its settings.
+    #[test]
+    fn equal_totals_have_equal_forms_and_others_have_not() {
+        for draft in [file_p(), one_state()] {
+            let form = |fourth| set_form(&with_total(&draft, fourth).bytes());
+            let forms = FOURTHS.map(form);
+            assert_eq!(forms[0], forms[2]);
+            for (at, one) in forms.iter().enumerate().skip(1) {
+                assert!(forms[at + 1..].iter().all(|other| one != other));
+            }
+        }
     }
 
     /// The call on the mixed file with so many bytes of 9 lent, and an answer of so many 8s.

@@ -2,6 +2,7 @@
 
 use crate::limits::*;
 use crate::problem::{refused, Problem, Refusal};
+use crate::totals::by_total;
 
 /// "Lent tables: values and picks per state, remembered values per row, walk list per state." In
 /// every table entries beyond stay.
@@ -43,7 +44,7 @@ pub fn solve_file(file: &[u8], budget: u64, tables: Tables) -> Run {
 pub fn solve(problem: &Problem, budget: u64, tables: Tables) -> Run {
     match ask(problem, budget, &tables) {
         Some(refusal) => Run { answer: Answer::Refused(refusal), full_count: 0 },
-        None => Machine::new(problem, tables).run(budget),
+        None => by_total!(problem.total, W => Machine::<W>::new(problem, tables).run(budget)),
     }
 }
 
@@ -71,8 +72,9 @@ struct Frame {
     end: u16,
 }
 
-/// The machine that the rounds move: the tables cut to the problem's counts, and what a walk needs.
-struct Machine<'a> {
+/// The machine that the rounds move: the tables cut to the problem's counts, and what a walk needs. The
+/// problem's weight total is W.
+struct Machine<'a, const W: u32> {
     problem: &'a Problem,
     values: &'a mut [u32],
     picks: &'a mut [u16],
@@ -84,10 +86,10 @@ struct Machine<'a> {
     full_count: u64,
 }
 
-impl<'a> Machine<'a> {
+impl<'a, const W: u32> Machine<'a, W> {
     /// "At first V = H, no state has a pick, and each row remembers its value under H." The walk
     /// list is empty: 65,535s up to the number of states.
-    fn new(problem: &'a Problem, tables: Tables<'a>) -> Machine<'a> {
+    fn new(problem: &'a Problem, tables: Tables<'a>) -> Machine<'a, W> {
         let (states, rows) = (problem.states.len(), problem.rows.len());
         let machine = Machine {
             problem,
@@ -217,7 +219,7 @@ impl<'a> Machine<'a> {
         if skipped {
             return;
         }
-        let value = self.problem.row_value(row, self.values);
+        let value = self.problem.row_value_in::<W>(row, self.values);
         self.remembered[row] = value;
         self.evaluations += 1;
         let wins = match choice.pick {

@@ -5,6 +5,7 @@ use crate::encode::{Draft, OutcomeItem, RowItem};
 use crate::limits::*;
 use crate::problem::seconds_of;
 use crate::random::Random;
+use crate::totals::{in_total, total_of, FOURTHS};
 use crate::wide::shuffle;
 
 /// A change to a draft, by name. It leaves a draft alone that has no place for it.
@@ -14,17 +15,21 @@ pub struct Change {
 }
 
 /// Changes that keep settings, estimates, goals, numbers of rows, row costs and total chances.
-pub const SAME: [Change; 6] = [
+pub const SAME: [Change; 7] = [
     Change { name: "outcomes shuffled", make: shuffle_outcomes },
     Change { name: "outcomes split", make: split_outcomes },
     Change { name: "rows filled with repeats", make: fill_rows },
     Change { name: "repeats merged", make: merge_repeats },
     Change { name: "kinds changed", make: change_kinds },
     Change { name: "all of these", make: change_all },
+    Change { name: OTHER_COUNT, make: change_count },
 ];
 
+/// The one change that only files with the total 1,000 have a place for.
+pub const OTHER_COUNT: &str = "the total by the other count";
+
 /// Changes of one of them. What they make may be refused.
-pub const DIFFERENT: [Change; 8] = [
+pub const DIFFERENT: [Change; 9] = [
     Change { name: "a unit of weight moved", make: move_weight },
     Change { name: "an estimate changed", make: change_estimate },
     Change { name: "a cost changed", make: change_cost },
@@ -33,6 +38,7 @@ pub const DIFFERENT: [Change; 8] = [
     Change { name: "the penalty changed", make: change_penalty },
     Change { name: "a goal changed", make: change_goal },
     Change { name: "a row at the next state", make: hand_row_on },
+    Change { name: "the total changed", make: change_total },
 ];
 
 /// A row's outcomes.
@@ -146,12 +152,24 @@ pub fn change_kinds(random: &mut Random, draft: &mut Draft) {
     }
 }
 
-/// Repeats merged, then split again, all shuffled, and other kinds.
+/// E7: "settings with the same W by either count are equal settings." A total of 1,000 by the count
+/// that it is not told by.
+fn change_count(_: &mut Random, draft: &mut Draft) {
+    if draft.total() == USUAL_TOTAL {
+        let fourth = (draft.settings.len() == SETTINGS).then_some(USUAL_TOTAL);
+        *draft = draft.clone().with_fourth(fourth);
+    }
+}
+
+/// Repeats merged, then split again, all shuffled, other kinds, and sometimes the other count.
 fn change_all(random: &mut Random, draft: &mut Draft) {
     merge_repeats(random, draft);
     split_outcomes(random, draft);
     shuffle_outcomes(random, draft);
     change_kinds(random, draft);
+    if random.once_in(2) {
+        change_count(random, draft);
+    }
 }
 
 /// One unit of weight from an outcome to another successor: one that the row has, or a new one.
@@ -234,6 +252,16 @@ fn change_tolerance(random: &mut Random, draft: &mut Draft) {
 /// Another penalty.
 fn change_penalty(random: &mut Random, draft: &mut Draft) {
     draft.settings[2] = another(random, draft.settings[2], MAX_PENALTY);
+}
+
+/// Another total, with the rows' weights in proportion: the same chances, as far as they can be said in
+/// the other total, and yet other settings.
+fn change_total(random: &mut Random, draft: &mut Draft) {
+    let mut others = FOURTHS.to_vec();
+    others.retain(|&fourth| total_of(fourth) != draft.total());
+    if let Some(other) = in_total(draft, random.pick(&others)) {
+        *draft = other;
+    }
 }
 
 /// A goal as a state without rows, or such a state as a goal.

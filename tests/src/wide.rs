@@ -4,6 +4,7 @@ use crate::encode::Draft;
 use crate::limits::*;
 use crate::made::{any_cost, any_weights};
 use crate::random::Random;
+use crate::totals::Fourth;
 
 /// In which order a wide row's successors stand.
 #[derive(Clone, Copy, Debug, PartialEq, Eq)]
@@ -26,18 +27,19 @@ pub const ORDERS: [Order; 5] =
 
 /// A file with 255 outcomes a row and as many rows as there is room for, then a row that fills the
 /// last of the 8,192 outcomes. Where there are fewer than 255 states, a row has as many outcomes as
-/// there are different states for it.
-pub fn wide(random: &mut Random, states: usize, order: Order) -> Draft {
+/// there are different states for it; and where the total is 100, no more than that.
+pub fn wide(random: &mut Random, states: usize, order: Order, fourth: Fourth) -> Draft {
+    let mut draft = Draft::new(0, 1, 5_000).with_fourth(fourth);
+    let total = draft.total();
     let repeats = matches!(order, Order::One | Order::Repeats);
-    let each = if repeats { MAX_IN_BYTE } else { MAX_IN_BYTE.min(states) };
+    let each = if repeats { MAX_IN_BYTE } else { MAX_IN_BYTE.min(states) }.min(total as usize);
     let rows = MAX_OUTCOMES.div_ceil(each).min(MAX_ROWS).min(MAX_IN_BYTE * (states - 1));
-    let mut draft = Draft::new(0, 1, 5_000);
     for state in 0..states - 1 {
         draft.add_state();
         for _ in rows * state / (states - 1)..rows * (state + 1) / (states - 1) {
             let outcomes = each.min(MAX_OUTCOMES - draft.outcomes.len());
             let successors = successors(random, states, order, outcomes);
-            let weights = any_weights(random, outcomes);
+            let weights = any_weights(random, outcomes, total);
             let outcomes: Vec<(u16, u16)> = successors.into_iter().zip(weights).collect();
             let (kind, cost) = any_cost(random);
             draft.add_row(kind, cost, &outcomes);
@@ -74,27 +76,30 @@ pub fn shuffle<T>(random: &mut Random, list: &mut [T]) {
 mod tests {
     use super::*;
     use crate::problem::Problem;
+    use crate::totals::FOURTHS;
 
     #[test]
     fn wide_files_are_whole_and_full() {
         let mut random = Random::new(5);
-        for order in ORDERS {
+        for (order, fourth) in ORDERS.into_iter().flat_map(|o| FOURTHS.map(|fourth| (o, fourth))) {
             for states in [255, 256, 1_024] {
-                let draft = wide(&mut random, states, order);
-                assert!(Problem::read(&draft.bytes()).is_ok(), "{order:?}");
+                let draft = wide(&mut random, states, order, fourth);
+                let (rows, each) = if draft.total() == 100 { (82, 100) } else { (33, 255) };
+                assert!(Problem::read(&draft.bytes()).is_ok(), "{order:?}, {fourth:?}");
                 assert_eq!(draft.outcomes.len(), MAX_OUTCOMES);
-                assert_eq!(draft.rows.len(), 33);
-                assert!(draft.rows[..32].iter().all(|row| row.outcomes == 255));
+                assert_eq!(draft.rows.len(), rows);
+                assert!(draft.rows[..rows - 1].iter().all(|row| row.outcomes == each));
             }
             for states in [2, 3, 40] {
-                assert!(Problem::read(&wide(&mut random, states, order).bytes()).is_ok());
+                let draft = wide(&mut random, states, order, fourth);
+                assert!(Problem::read(&draft.bytes()).is_ok(), "{order:?}, {fourth:?}");
             }
         }
     }
 
     #[test]
     fn falling_successors_fall() {
-        let draft = wide(&mut Random::new(6), 300, Order::Falling);
+        let draft = wide(&mut Random::new(6), 300, Order::Falling, None);
         let fall =
             |row: &[crate::encode::OutcomeItem]| row.is_sorted_by(|a, b| a.successor > b.successor);
         assert!(draft.outcomes.chunks(MAX_IN_BYTE).all(fall));

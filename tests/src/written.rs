@@ -6,6 +6,7 @@
 
 use crate::encode::{Draft, OutcomeItem, RowItem, StateItem};
 use crate::limits::{KIND_RATE, KIND_SECONDS, MAX_IN_BYTE, SETTINGS};
+use crate::totals::Fourth;
 use std::collections::HashMap;
 use std::fmt::Write;
 
@@ -57,6 +58,7 @@ struct Reader {
     start: Option<Reference>,
     tolerance: Option<u32>,
     penalty: Option<u32>,
+    total: Fourth,
     numbers: HashMap<String, usize>,
     states: Vec<StateItem>,
     rows: Vec<RowItem>,
@@ -85,11 +87,12 @@ impl Reader {
             }
             "tolerance" => set(&mut self.tolerance, word, number(rest, u32::MAX)?),
             "penalty" => set(&mut self.penalty, word, number(rest, u32::MAX)?),
+            "total" => set(&mut self.total, word, number(rest, u32::MAX)?),
             "state" => self.take_state(rest, said),
             "goal" => self.add_state(rest, StateItem { estimate: 0, rows: 0, goal: 1 }, said),
             "row" => self.take_row(at, rest, said),
             _ => Err(format!(
-                "`{word}`: a line begins with start, tolerance, penalty, state, goal or row"
+                "`{word}`: a line begins with start, tolerance, penalty, total, state, goal or row"
             )),
         }
     }
@@ -153,7 +156,7 @@ impl Reader {
         number.ok_or_else(|| format!("line {line}: no state or goal is named `{name}`"))
     }
 
-    /// The settings in the file's order. Each must have been given.
+    /// The first three settings in the file's order. Each must have been given.
     fn settings(&self) -> Result<[u32; SETTINGS], String> {
         let missing = |line: &str| format!("the text has no line `{line}`");
         let start = self.start.as_ref().ok_or_else(|| missing("start NAME"))?;
@@ -162,10 +165,10 @@ impl Reader {
         Ok([self.look_up(start)? as u32, tolerance, penalty])
     }
 
-    /// Puts numbers for names.
+    /// Puts numbers for names. Where a total is given it is the fourth setting, and else there are three.
     fn finish(self) -> Result<Written, String> {
         let [start, tolerance, penalty] = self.settings()?;
-        let mut draft = Draft::new(start, tolerance, penalty);
+        let mut draft = Draft::new(start, tolerance, penalty).with_fourth(self.total);
         for (reference, weight) in &self.outcomes {
             // The cast cuts nothing: there are at most 65,535 states.
             let successor = self.look_up(reference)? as u16;
@@ -234,8 +237,11 @@ mod tests {
 
     /// A draft as a text.
     fn text_of(draft: &Draft) -> String {
-        let [start, tolerance, penalty] = draft.settings[..] else { panic!("three settings") };
-        let mut text = format!("start s{start}\ntolerance {tolerance}\npenalty {penalty}\n");
+        let mut text: String = ["start s", "tolerance ", "penalty ", "total "]
+            .iter()
+            .zip(&draft.settings)
+            .map(|(front, setting)| format!("{front}{setting}\n"))
+            .collect();
         let (mut rows, mut outcomes) = (draft.rows.iter(), draft.outcomes.iter());
         for (number, state) in draft.states.iter().enumerate() {
             text += &match state.goal {
@@ -299,6 +305,24 @@ mod tests {
         let text = "start a\ntolerance 0\npenalty 4000000\ngoal a\nrow rate 9: a 0, a 7";
         let draft = Written::read(text).expect("whole").draft;
         assert_eq!((draft.settings, draft.states[0].rows), (vec![0, 0, 4_000_000], 1));
+    }
+
+    /// E7: "Settings may have count 4, the fourth being the weight total W". One that is given is written
+    /// as it is, 1,000 too, and whether it is a total, the planner asks.
+    #[test]
+    fn a_total_is_the_fourth_setting() {
+        let settings = |line: &str| {
+            let text = format!("{line}{SETTINGS}state a");
+            Written::read(&text).expect("whole").draft.settings
+        };
+        assert_eq!(settings(""), [0, 1, 5]);
+        for total in [100, 1_000, 4_096, 10_000, 0, 999, 65_636, u32::MAX] {
+            assert_eq!(settings(&format!("total {total}\n")), [0, 1, 5, total]);
+        }
+        assert_eq!(fault("total 100\nstate a\ntotal 100"), "line 6: `total` is given twice");
+        let most = "a whole number from 0 to 4294967295 is meant";
+        assert_eq!(fault("total 4294967296"), format!("line 4: `4294967296`: {most}"));
+        assert_eq!(fault("total"), format!("line 4: ``: {most}"));
     }
 
     #[test]

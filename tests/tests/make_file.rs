@@ -1,6 +1,6 @@
 //! `make_file` as a program: what it writes, what it lists, and how it says that it cannot.
 
-use comparisons::examples::{path, stick};
+use comparisons::examples::{file_p, path, stick};
 use comparisons::programs::Folder;
 use std::process::{Command, Output};
 
@@ -27,6 +27,35 @@ fn it_makes_and_shows() {
     assert!(output.status.success() && output.stderr.is_empty());
     assert!(output.stdout.starts_with(b"state 0  first"));
     assert!(output.stdout.ends_with(b"  row 2  300 s: done 1000\ngoal 2  done\n"));
+}
+
+/// E7: a total that is given is the fourth setting, 1,000 too, and whether it is one, the planner asks.
+/// Without the line there are three settings.
+#[test]
+fn it_writes_the_total_that_is_given() {
+    let folder = Folder::new("make-file-total");
+    let text = std::fs::read_to_string(path("P.txt")).expect("P's text");
+    for (line, fourth) in [
+        ("", None),
+        ("total 100", Some(100)),
+        ("total 1000 # of W", Some(1_000)),
+        ("total 4096", Some(4_096)),
+        ("total 10000", Some(10_000)),
+        ("total 999", Some(999)),
+        ("total 4294967295", Some(u32::MAX)),
+    ] {
+        folder.put("text", Some(format!("{line}\n{text}").as_bytes()));
+        let output = make_file(&folder, &["make", "text", "file"]);
+        assert!(output.status.success() && output.stdout.is_empty() && output.stderr.is_empty());
+        assert_eq!(folder.get("file"), Some(file_p().with_fourth(fourth).bytes()), "{line}");
+        let shown = make_file(&folder, &["show", "text"]).stdout;
+        assert_eq!(shown, make_file(&folder, &["show", &path("P.txt")]).stdout, "{line}");
+    }
+    folder.put("text", Some(format!("total many\n{text}").as_bytes()));
+    let asked = "make_file: text, line 1: `many`: a whole number from 0 to 4294967295 is meant\n";
+    assert_eq!(fault(&folder, &["make", "text", "file"]), asked);
+    folder.put("text", Some(format!("{text}\ntotal 100\ntotal 100\n").as_bytes()));
+    assert!(fault(&folder, &["make", "text", "file"]).ends_with(": `total` is given twice\n"));
 }
 
 #[test]

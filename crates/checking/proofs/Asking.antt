@@ -5,24 +5,24 @@ use Prim.Native.Nat.{ℕ, _+_, _*_, _≤_, _<_}
 use native.Mathlib.Omega.{arith}
 use mathlib.Core.Bool.{Bool, true, false, not}
 use mathlib.Core.List.{List}
-use lib.Dec.{leb, ltb, eqb}
+use lib.Dec.{leb, eqb}
 use lib.ListN.{length, getD, replicate, length-replicate}
 use borrow.Author.Tests.{lt-leb, le-leb, eq-eqb, ne-eqb, ltb-true}
 use Rattle.model.specs.Bytes.{u32At}
-use Rattle.model.specs.Limits.{maxStates, maxTolerance, maxPenalty}
-use Rattle.model.specs.Problem.{Problem, endRow, giveUpCost}
-use Rattle.model.specs.Questions.{Verdict, passes, fails, _then_, ask, askEach, between, stateObeys}
+use Rattle.model.specs.Limits.{maxStates, maxPenalty, weightTotals}
+use Rattle.model.specs.Problem.{endRow, giveUpCost}
+use Rattle.model.specs.Questions.{Verdict, passes, fails, _then_, ask, askEach, stateObeys, rowSound}
 use Rattle.model.specs.Questions.{layoutQuestions, settingQuestions, stateQuestion, startQuestion}
 use Rattle.model.specs.Questions.{rowNumberQuestion, rowQuestion, outcomeNumberQuestion, outcomeQuestion, estimateQuestion}
 use Rattle.model.specs.Questions.{itemQuestions, fileQuestions, undercutState}
 use Rattle.model.specs.Rounds.{fillTo}
-use Rattle.model.specs.Search.{first, sumTo}
+use Rattle.model.specs.Search.{first, sumTo, oneOf}
 use Rattle.model.specs.Sections.{problemOf, outcomeAt, goalByteOf}
 use Rattle.model.specs.Value.{byState}
-use Rattle.guarantee.specs.Searches.{each-yes, ask-yes, then-first, then-next}
+use Rattle.guarantee.specs.Searches.{each-yes, then-first}
 use Rattle.guarantee.specs.Tables.{fill-entry}
 use Rattle.guarantee.specs.Undercutting.{undercut-state-same, undercut-row-same}
-use Rattle.guarantee.specs.WellFormed.{between-high}
+use Rattle.guarantee.specs.WellFormed.{between-high, settings-yes}
 use Rattle.reading.specs.declared.layout.Layout.{Layout}
 use Rattle.reading.specs.declared.settings.Settings.{Settings}
 use Rattle.checking.specs.Stretches.{RowsAsked, RowsAnswered, ValuesAsked, ValuesAnswered}
@@ -34,7 +34,7 @@ use Rattle.reading.specs.Ready.{Undercuts}
 use Rattle.reading.specs.Bounds.{byteBound}
 use Rattle.reading.specs.Tests.{rowTest, rowCountAt, outcomeCountAt, ticksAt, allEntries, RowsIndexed, indexSize}
 use Rattle.reading.specs.Tests.{outcomesIn, partOf}
-use Rattle.checking.specs.ItemTests.{SettingAnswer, stateTest, outcomesTest}
+use Rattle.checking.specs.ItemTests.{SettingAnswer, settingQuestion, stateTest}
 use Rattle.checking.proofs.Indexing.{index-holds, same-search, index-ready}
 
 -- a refusal passes nothing
@@ -160,18 +160,19 @@ module _ {f : List ℕ} {l : Layout} (asked : RowsAsked f l) where
 
 module _ {f index : List ℕ} {l : Layout} (asked : ValuesAsked f index l) where
   -- the first row whose part of the file does not obey section 3
-  abbrev badPart : ℕ
-  badPart = first (λ j. outcomesTest (l .states) (outcomesIn (partOf f index j))) 0 (l .rows)
+  module _ {total : ℕ} (is : total ≡ problemOf f .total) where
+    abbrev badPart : ℕ
+    badPart = first (λ j. rowSound (l .states) total (outcomesIn (partOf f index j))) 0 (l .rows)
 
-  ten : outcomeQuestion (problemOf f) ≡ ask 10 badPart (leb (l .rows) badPart)
-  unfolding outcomeQuestion
-  ten = rw (asked .laid .states-are, asked .laid .rows-are, same-search (asked .indexed))
+    ten : outcomeQuestion (problemOf f) ≡ ask 10 badPart (leb (l .rows) badPart)
+    unfolding outcomeQuestion
+    ten = rw (is, asked .laid .states-are, asked .laid .rows-are, same-search (asked .indexed))
 
-  pub ten-no : {r : ℕ} → r ≡ badPart → r < l .rows → outcomeQuestion (problemOf f) ≡ fails 10 r
-  ten-no e h = rw (ten, ← e, lt-leb _ _ h)
+    pub ten-no : {r : ℕ} → r ≡ badPart → r < l .rows → outcomeQuestion (problemOf f) ≡ fails 10 r
+    ten-no e h = rw (ten, ← e, lt-leb _ _ h)
 
-  pub ten-yes : {r : ℕ} → r ≡ badPart → l .rows ≤ r → outcomeQuestion (problemOf f) ≡ passes
-  ten-yes e h = rw (ten, ← e, le-leb _ _ h)
+    pub ten-yes : {r : ℕ} → r ≡ badPart → l .rows ≤ r → outcomeQuestion (problemOf f) ≡ passes
+    ten-yes e h = rw (ten, ← e, le-leb _ _ h)
 
   module _ (passed : outcomeQuestion (problemOf f) ≡ passes) {values : List ℕ}
       (filled : values ≡ fillTo (problemOf f .estimate) (replicate maxStates 0) (l .states)) {s r : ℕ}
@@ -183,7 +184,7 @@ module _ {f index : List ℕ} {l : Layout} (asked : ValuesAsked f index l) where
         rw filled (fill-entry (problemOf f .estimate) (replicate maxStates 0) (l .states) j long below)
 
     within : (j : ℕ) → j < problemOf f .states → endRow (problemOf f) j ≤ problemOf f .rows
-    within = index-ready (asked .indexed) passed .rows-within
+    within = index-ready (asked .indexed) (asked .total-known) passed .rows-within
 
     same-state : s ≡ undercutState (problemOf f) (problemOf f .estimate)
     same-state =
@@ -213,43 +214,33 @@ module _ {f index : List ℕ} {l : Layout} (asked : ValuesAsked f index l) where
 
   pub values-pass
       : outcomeQuestion (problemOf f) ≡ passes → estimateQuestion (problemOf f) ≡ passes → ValuesAnswered f index passes
-  values-pass d e = record { verdict = rw (d, e); ready = λ t. index-ready (asked .indexed) d }
+  values-pass d e = record { verdict = rw (d, e); ready = λ t. index-ready (asked .indexed) (asked .total-known) d }
 
 -- questions 4 to 6
 
-settings-start : (p : Problem) → settingQuestions p ≡ passes → p .start < p .states
-unfolding settingQuestions
-settings-start p h = ltb-true _ _ (ask-yes 4 0 _ (then-first _ _ h))
-
-settings-penalty : (p : Problem) → settingQuestions p ≡ passes → p .penalty ≤ maxPenalty
-unfolding settingQuestions
-settings-penalty p h =
-    let start = ask 4 0 (ltb (p .start) (p .states)) in
-    let tolerance = ask 4 1 (between 1 maxTolerance (p .tolerance)) in
-    let penalty = ask 4 2 (between 1 maxPenalty (p .penalty)) in
-    let last = then-next tolerance penalty (then-next start (tolerance then penalty) h) in
-    between-high 1 maxPenalty (p .penalty) (ask-yes 4 2 _ last)
-
 module _ {f : List ℕ} {l : Layout} (asked : RowsAsked f l) {set : Settings} (known : SettingsOf f set) where
-  -- question 4: what is known of the settings where it passes
+  -- questions 4 and 24: what is known of the settings where they pass
 
   module _ (bad : ℕ) (found : SettingAnswer set (l .states) bad) where
-    four : settingQuestions (problemOf f) ≡ ask 4 bad (leb 3 bad)
+    four : settingQuestions (problemOf f) ≡ ask (settingQuestion bad) bad (leb 4 bad)
     four =
         found (problemOf f) (sym (known .start-is)) (sym (asked .laid .states-are)) (sym (known .tolerance-is))
-        (sym (known .penalty-is))
+        (sym (known .penalty-is)) (sym (known .total-is))
 
-    pub four-no : bad < 3 → settingQuestions (problemOf f) ≡ fails 4 bad
+    pub four-no : bad < 4 → settingQuestions (problemOf f) ≡ fails (settingQuestion bad) bad
     four-no h = rw (four, lt-leb _ _ h)
 
-    pub four-yes : 3 ≤ bad → settingQuestions (problemOf f) ≡ passes
+    pub four-yes : 4 ≤ bad → settingQuestions (problemOf f) ≡ passes
     four-yes h = rw (four, le-leb _ _ h)
 
-    pub start-below : 3 ≤ bad → set .start < problemOf f .states
-    start-below h = rw (known .start-is) (settings-start (problemOf f) (four-yes h))
+    pub start-below : 4 ≤ bad → set .start < problemOf f .states
+    start-below h = rw (known .start-is) (ltb-true _ _ (settings-yes (problemOf f) (four-yes h) .0))
 
-    pub penalty-fits : 3 ≤ bad → problemOf f .penalty ≤ maxPenalty
-    penalty-fits h = settings-penalty (problemOf f) (four-yes h)
+    pub penalty-fits : 4 ≤ bad → problemOf f .penalty ≤ maxPenalty
+    penalty-fits h = between-high 1 maxPenalty (problemOf f .penalty) (settings-yes (problemOf f) (four-yes h) .2)
+
+    pub total-fits : 4 ≤ bad → oneOf (problemOf f .total) weightTotals ≡ true
+    total-fits h = settings-yes (problemOf f) (four-yes h) .3
 
   -- question 5: the first state that does not obey section 1
 
@@ -288,8 +279,8 @@ module _ {f : List ℕ} {l : Layout} (asked : RowsAsked f l) {set : Settings} (k
 -- questions 4 to 11 together
 
 module _ {f index : List ℕ} where
-  pub items-stop-4 : {i : ℕ} → settingQuestions (problemOf f) ≡ fails 4 i → ItemsAnswered f index index (fails 4 i)
-  items-stop-4 e = record { verdict = rw e; left = rw e; ready = no-pass 4 _ }
+  pub items-stop-4 : {q i : ℕ} → settingQuestions (problemOf f) ≡ fails q i → ItemsAnswered f index index (fails q i)
+  items-stop-4 e = record { verdict = rw e; left = rw e; ready = no-pass _ _ }
 
   pub items-stop-5
       : {i : ℕ} → settingQuestions (problemOf f) ≡ passes → stateQuestion f (problemOf f) ≡ fails 5 i

@@ -10,9 +10,10 @@ use mathlib.Core.List.{List}
 use mathlib.Core.Logic.{_⊎_, inl, inr}
 use lib.ListN.{length, getD, set, drop, length-set}
 use lib.Seq.{getD-set-same, getD-set-other}
+use Rattle.model.specs.Limits.{weightTotals}
 use Rattle.model.specs.Questions.{passes, layoutQuestions, rowNumberQuestion, outcomeNumberQuestion}
-use Rattle.model.specs.Questions.{outcomesObey, outcomeQuestion}
-use Rattle.model.specs.Search.{first, sumTo}
+use Rattle.model.specs.Questions.{outcomesObey, rowSound, outcomeQuestion}
+use Rattle.model.specs.Search.{first, sumTo, oneOf}
 use Rattle.model.specs.Sections.{problemOf, rowsAt, outcomeAt, outcomeCountOf}
 use Rattle.model.specs.Value.{rowTicks}
 use Rattle.guarantee.specs.Parts.{obey-successor}
@@ -26,7 +27,7 @@ use Rattle.reading.specs.Ready.{Ready}
 use Rattle.reading.specs.Bounds.{byteBound}
 use Rattle.reading.specs.Tests.{rowsBase, indexSize, rowEntries, allEntries}
 use Rattle.reading.specs.Tests.{partOf, outcomesIn}
-use Rattle.checking.specs.ItemTests.{outcomesTest, PartThere}
+use Rattle.checking.specs.ItemTests.{PartThere}
 
 -- the entries of the rows
 
@@ -161,15 +162,16 @@ module _ {f index : List ℕ} (h : Indexed f index) where
 
   -- question 10 of the parts is question 10 of the problem
   pub same-search
-      : first (λ k. outcomesTest (problemOf f .states) (outcomesIn (partOf f index k))) 0 (problemOf f .rows)
-      ≡ first (λ k. outcomesTest (problemOf f .states) (problemOf f .outcomes k)) 0 (problemOf f .rows)
+      : first (λ k. rowSound (problemOf f .states) (problemOf f .total) (outcomesIn (partOf f index k))) 0 (problemOf f .rows)
+      ≡ first (λ k. rowSound (problemOf f .states) (problemOf f .total) (problemOf f .outcomes k)) 0 (problemOf f .rows)
   same-search = first-same _ _ 0 (problemOf f .rows) (λ j low high. rw (outcomes-of-part j (omega arith)))
 
-  pub index-ready : outcomeQuestion (problemOf f) ≡ passes → Ready f index
+  pub index-ready : oneOf (problemOf f .total) weightTotals ≡ true → outcomeQuestion (problemOf f) ≡ passes → Ready f index
   unfolding outcomeQuestion
-  index-ready passed =
+  index-ready known passed =
       record {
         whole = h .whole;
+        total-known = known;
         size = h .size;
         first-row = h .first-row;
         outcomes-at = h .outcomes-at;
@@ -184,7 +186,7 @@ module _ {f index : List ℕ} (h : Indexed f index) where
         successor-there = λ r i l k.
             let p = problemOf f in
             let test = ask-each-yes 10 (p .rows) _ passed r l in
-            let obey : outcomesObey (p .states) (p .outcomes r) ≡ true = and-left _ _ test in
+            let obey : outcomesObey (p .states) (p .total) (p .outcomes r) ≡ true = and-left _ _ test in
             let read = rw (outcomes-read f r) at obey in
-            obey-successor (p .states) (drop (outcomeAt f r) f) 0 (outcomeCountOf f r) i read (omega arith) (omega arith);
+            obey-successor (p .states) (p .total) (drop (outcomeAt f r) f) 0 (outcomeCountOf f r) i read (omega arith) (omega arith);
       }

@@ -1,10 +1,13 @@
 -- What the stretches of questions ask for and answer: the verdict, what the index holds, and what stands where they pass.
 use mathlib.Core.Path.{_≡_}
 use Prim.Native.Nat.{ℕ}
+use mathlib.Core.Bool.{true}
 use mathlib.Core.List.{List}
+use Rattle.model.specs.Limits.{weightTotals}
 use Rattle.model.specs.Questions.{Verdict, passes, _then_, layoutQuestions, settingQuestions, itemQuestions}
 use Rattle.model.specs.Questions.{rowNumberQuestion, rowQuestion, outcomeNumberQuestion, outcomeQuestion}
 use Rattle.model.specs.Questions.{estimateQuestion, fileQuestions}
+use Rattle.model.specs.Search.{oneOf}
 use Rattle.model.specs.Sections.{problemOf}
 use Rattle.reading.specs.declared.layout.Layout.{Layout}
 use Rattle.checking.specs.Indexed.{Indexed}
@@ -26,6 +29,7 @@ pub record RowsAnswered (f before after : List ℕ) (said : Verdict) : Type 0 wh
 pub record ValuesAsked (f index : List ℕ) (l : Layout) : Type 0 where
   pub whole : layoutQuestions f ≡ passes
   pub laid : LaidOut f l
+  pub total-known : oneOf (problemOf f .total) weightTotals ≡ true
   pub indexed : Indexed f index
 
 -- questions 10 and 11

@@ -1,9 +1,12 @@
-// The items one by one: questions 4, 5, 8 and 10.
+// The items one by one: questions 4, 24, 5, 8 and 10.
+use model::HUNDREDTHS;
 use model::MAX_PENALTY;
 use model::MAX_RATE;
 use model::MAX_TOLERANCE;
 use model::MIN_RATE;
-use model::WEIGHT_TOTAL;
+use model::TEN_THOUSANDTHS;
+use model::THOUSANDTHS;
+use model::TWELVE_BITS;
 use reading::index::INDEX;
 use reading::index::ROWS;
 use reading::numbers::byte_at;
@@ -14,10 +17,10 @@ ghost use mathlib.Core.Path.{_≡_};
 ghost use mathlib.Core.Bool.{not};
 ghost use Prim.Native.Nat.{ℕ, _+_, _*_, _≤_, _<_};
 ghost use lib.ListN.{length};
-ghost use Rattle.model.specs.Limits.{maxRows};
-ghost use Rattle.model.specs.Questions.{between};
-ghost use Rattle.model.specs.Search.{first};
-ghost use Rattle.checking.specs.ItemTests.{SettingAnswer, stateObeysAt, rowObeysAt, stateTest, outcomesTest, PartThere};
+ghost use Rattle.model.specs.Limits.{maxRows, weightTotals};
+ghost use Rattle.model.specs.Questions.{between, rowSound};
+ghost use Rattle.model.specs.Search.{first, oneOf};
+ghost use Rattle.checking.specs.ItemTests.{SettingAnswer, settingQuestion, stateObeysAt, rowObeysAt, stateTest, PartThere};
 ghost use Rattle.reading.specs.Tests.{rowTest, partOf, outcomesIn};
 ghost use Rattle.reading.specs.Bounds.{maxByte};
 
@@ -34,20 +37,49 @@ fn out_of_range(x: u32, high: u32) -> bool
     false
 }
 
-// Question 4: the first setting out of range, or 3.
+// Whether a weight total is none of the four.
+fn unknown_total(total: u32) -> bool
+    ensures { λ r. ⌜ r ≡ not (oneOf total weightTotals) ⌝ }
+{
+    if total == HUNDREDTHS {
+        return false;
+    }
+    if total == THOUSANDTHS {
+        return false;
+    }
+    if total == TWELVE_BITS {
+        return false;
+    }
+    total != TEN_THOUSANDTHS
+}
+
+// Questions 4 and 24: the first setting that is refused, or 4.
 pub fn bad_setting(set: Settings, states: usize) -> u32
     ensures { λ r. ⌜ SettingAnswer set states r ⌝ }
 {
+    let tolerance = out_of_range(set.tolerance, MAX_TOLERANCE);
+    let penalty = out_of_range(set.penalty, MAX_PENALTY);
+    let total = unknown_total(set.total);
     if states <= (set.start as usize) {
         return 0;
     }
-    if out_of_range(set.tolerance, MAX_TOLERANCE) {
+    if tolerance {
         return 1;
     }
-    if out_of_range(set.penalty, MAX_PENALTY) {
+    if penalty {
         return 2;
     }
-    3
+    if total {
+        return 3;
+    }
+    4
+}
+
+// The question that refuses a setting: 24 the fourth, 4 the others.
+pub fn setting_question(setting: u32) -> u8
+    ensures { λ r. ⌜ r ≡ settingQuestion setting ⌝ }
+{
+    if setting == 3 { 24 } else { 4 }
 }
 
 // Whether the state whose bytes begin at `i` obeys section 1; `limit` is 1000 × D.
@@ -125,13 +157,13 @@ pub fn bad_row(file: &[u8], at: usize, n: usize) -> usize
     n
 }
 
-// Whether the outcomes in `part`, 4 bytes each, lead to the first `states` states, with weights in range that add to 1,000.
-pub fn outcomes_obey(part: &[u8], states: usize) -> bool
+// Whether the outcomes in `part`, 4 bytes each, lead to the first `states` states, with weights of 1 to W that add to W.
+pub fn outcomes_obey(part: &[u8], states: usize, total: u32) -> bool
     requires { ⌜ length (now part) ≤ 4 * maxByte ⌝ }
-    ensures { λ r. ⌜ r ≡ outcomesTest states (outcomesIn (now (part .entry))) ⌝ }
+    ensures { λ r. ⌜ r ≡ rowSound states total (outcomesIn (now (part .entry))) ⌝ }
 {
     let count = part.len() / 4;
-    let mut total: u32 = 0;
+    let mut sum: u32 = 0;
     let mut i = 0;
     while i < count {
         let successor = u16_at(part, 4 * i);
@@ -142,26 +174,26 @@ pub fn outcomes_obey(part: &[u8], states: usize) -> bool
         if weight < 1 {
             return false;
         }
-        if WEIGHT_TOTAL < weight {
+        if total < weight {
             return false;
         }
-        total += weight;
+        sum += weight;
         i += 1;
     }
-    total == WEIGHT_TOTAL
+    sum == total
 }
 
 // Question 10: the first row whose outcomes do not obey section 3, or n.
-pub fn bad_outcomes(file: &[u8], n: usize, states: usize, index: &[u32; INDEX]) -> usize
+pub fn bad_outcomes(file: &[u8], n: usize, states: usize, total: u32, index: &[u32; INDEX]) -> usize
     requires { ⌜ (n ≤ maxRows) × ((r : ℕ) → r < n → PartThere (now file) (now index) r) ⌝ }
     ensures { λ r.
-        ⌜ r ≡ first (λ k. outcomesTest states (outcomesIn (partOf (now (file .entry)) (now (index .entry)) k))) 0 n ⌝ }
+        ⌜ r ≡ first (λ k. rowSound states total (outcomesIn (partOf (now (file .entry)) (now (index .entry)) k))) 0 n ⌝ }
 {
     let mut row = 0;
     while row < n {
         let from = index[ROWS + 2 * row] as usize;
         let to = index[ROWS + 2 * row + 2] as usize;
-        if !outcomes_obey(&file[from..to], states) {
+        if !outcomes_obey(&file[from..to], states, total) {
             return row;
         }
         row += 1;

@@ -3,6 +3,7 @@ use crate::items::bad_outcomes;
 use crate::items::bad_row;
 use crate::items::bad_setting;
 use crate::items::bad_state;
+use crate::items::setting_question;
 use crate::sections::sections;
 use model::FileAnswer;
 use model::MAX_STATES;
@@ -13,6 +14,7 @@ use reading::layout::Layout;
 use reading::layout::layout_of;
 use reading::settings::give_up_cost;
 use reading::settings::settings_of;
+use reading::settings::total_of;
 use reading::states::estimates;
 use reading::states::is_goal;
 use reading::value::first_undercut;
@@ -66,7 +68,7 @@ fn value_questions(file: &[u8], l: Layout, index: &[u32; INDEX]) -> FileAnswer
 {
     let rows = l.rows;
     let states = l.states;
-    let r = bad_outcomes(file, rows, states, index);
+    let r = bad_outcomes(file, rows, states, total_of(file), index);
     if r < rows {
         return refused(10, r);
     }
@@ -87,8 +89,8 @@ fn item_questions(file: &[u8], l: Layout, index: &mut [u32; INDEX]) -> FileAnswe
     let set = settings_of(file);
     let states = l.states;
     let bad = bad_setting(set, states);
-    if bad < 3 {
-        return refused(4, bad as usize);
+    if bad < 4 {
+        return refused(setting_question(bad), bad as usize);
     }
     let s = bad_state(file, l.at1, states, give_up_cost(file));
     if s < states {

@@ -2,8 +2,9 @@
 use model::FileAnswer;
 use model::MAX_OUTCOMES;
 use model::MAX_ROWS;
+use model::MAX_SETTINGS;
 use model::MAX_STATES;
-use model::SETTING_COUNT;
+use model::MIN_SETTINGS;
 use reading::layout::section_end;
 use reading::numbers::u16_at;
 ghost use mathlib.Core.Path.{_≡_};
@@ -38,7 +39,7 @@ fn section(file: &[u8], i: usize, size: usize, low: u32, high: u32) -> u8
 pub fn sections(file: &[u8]) -> FileAnswer
     ensures { λ r. ⌜ verdictOf r ≡ layoutQuestions (now (file .entry)) ⌝ }
 {
-    let q0 = section(file, 0, 4, SETTING_COUNT, SETTING_COUNT);
+    let q0 = section(file, 0, 4, MIN_SETTINGS, MAX_SETTINGS);
     if q0 != 0 {
         return FileAnswer::Refused {
             question: q0,

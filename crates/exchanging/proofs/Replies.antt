@@ -1,14 +1,14 @@
 -- What the call answers and leaves, by its questions in order: the file's, then 23.
 -- Each law opens the definition once, where the question that ends the call is known.
 use mathlib.Core.Path.{_≡_, refl, sym, _∙_, ap, subst}
-use Prim.Native.Nat.{ℕ, _+_, _*_, _≤_, _<_}
+use Prim.Native.Nat.{ℕ, _≤_, _<_}
 use native.Mathlib.Omega.{arith}
 use mathlib.Core.List.{List}
 use lib.ListN.{length, getD, replicate, length-replicate}
 use borrow.Author.Tests.{le-leb, lt-leb}
 use Rattle.model.specs.Answers.{exchangedOf}
 use Rattle.model.specs.Buffers.{copied}
-use Rattle.model.specs.Encoding.{outcomesTo, partsTo}
+use Rattle.model.specs.Encoding.{settingNumber, outcomesTo, partsTo}
 use Rattle.model.specs.Limits.{maxRows, maxOutcomes}
 use Rattle.model.specs.Promises.{Exchanges}
 use Rattle.model.specs.Questions.{passes, fails, fileQuestions}
@@ -17,9 +17,8 @@ use Rattle.model.specs.Sections.{problemOf}
 use Rattle.model.specs.SetForm.{setForm, exchangeQuestions, Exchange, exchange, written, refused}
 use Rattle.model.specs.declared.FormAnswer.{FormAnswer}
 use Rattle.guarantee.specs.Tables.{fill-entry}
-use Rattle.reading.specs.Laid.{firstState}
 use Rattle.reading.specs.Ready.{Ready}
-use Rattle.exchanging.specs.Forms.{formOf, formCount, rowCodes, Accepted, Counted, FormAsked}
+use Rattle.exchanging.specs.Forms.{formOf, formCount, rowCodes, Accepted, Counted, formLength, FormAsked}
 use Rattle.exchanging.specs.Puts.{Puts}
 use Rattle.exchanging.proofs.Runs.{puts-long, puts-held}
 use Rattle.exchanging.proofs.Sections.{codes-size, form-few, form-size}
@@ -94,12 +93,13 @@ module _ {f index table : List ℕ} (h : Accepted f index) {states rows outcomes
   pub outcomes-few : outcomes ≤ maxOutcomes
   outcomes-few = omega (arith, all-outcomes, form-few h)
 
-  pub size-is : {n : ℕ} → n ≡ firstState + 6 * states + 2 + 4 * rows + 2 + 4 * outcomes → n ≡ length (setForm f)
-  size-is e = omega (arith, e, states-are, rows-are, all-outcomes, form-size f)
+  pub size-is
+      : {settings n : ℕ} → settings ≡ settingNumber (formOf f) → n ≡ formLength settings states rows outcomes → n ≡ length (setForm f)
+  size-is settings-are e = omega (arith, e, settings-are, states-are, rows-are, all-outcomes, form-size f)
 
   pub form-asked
       : {counts out : List ℕ} {n : ℕ} → counts ≡ fillTo (formCount f) (replicate maxRows 0) rows
-      → n ≡ firstState + 6 * states + 2 + 4 * rows + 2 + 4 * outcomes → n ≤ length out
+      → n ≡ length (setForm f) → n ≤ length out
       → FormAsked f index counts table outcomes out
   form-asked filled e room =
       record {
@@ -108,5 +108,5 @@ module _ {f index table : List ℕ} (h : Accepted f index) {states rows outcomes
         outcomes-are = all-outcomes;
         table-long = omega (arith, puts-long p, p .room);
         coded = puts-held p ∙ all-codes;
-        room = omega (arith, size-is e);
+        room = omega (arith, e);
       }

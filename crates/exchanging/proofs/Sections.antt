@@ -4,13 +4,16 @@ use mathlib.Core.Path.{_≡_, refl, sym, _∙_, ap, ap₂}
 use Prim.Native.Nat.{ℕ, zero, suc, _+_, _-_, _*_, _/_, _≤_, _<_}
 use native.Mathlib.Numerals.{add-one}
 use native.Mathlib.Omega.{arith}
-use mathlib.Core.List.{List, _∷_, _++_}
+use mathlib.Core.List.{List, _∷_, _++_, append-nil}
+use lib.Dec.{eqb}
 use lib.ListN.{length, set, take, drop, length-append}
+use borrow.Author.Tests.{eq-eqb, ne-eqb}
 use lib.Seq.{take-all}
 use Rattle.model.specs.Buffers.{copied}
 use Rattle.model.specs.Bytes.{numberBytes}
-use Rattle.model.specs.Encoding.{partsTo, settingBytes, stateBytes, rowBytes, outcomeBytes, outcomesTo, encode}
-use Rattle.model.specs.Limits.{settingCount, maxOutcomes}
+use Rattle.model.specs.Encoding.{partsTo, settingsOn, fourthOn, settingNumber, settingBytes, stateBytes, rowBytes}
+use Rattle.model.specs.Encoding.{outcomeBytes, outcomesTo, encode}
+use Rattle.model.specs.Limits.{thousandths, maxOutcomes}
 use Rattle.model.specs.Problem.{Problem, Outcome}
 use Rattle.model.specs.Rounds.{fillTo}
 use Rattle.model.specs.Search.{sumTo}
@@ -28,13 +31,15 @@ use Rattle.guarantee.specs.Standing.{parts-length, parts-same}
 use Rattle.guarantee.specs.Searches.{sum-room}
 use Rattle.guarantee.specs.Sums.{sum-below}
 use Rattle.guarantee.specs.TableFiles.{number-length, bytes-append, bytes-next}
+use Rattle.guarantee.specs.Totals.{total-high}
 use Rattle.guarantee.specs.WellFormed.{WellFormed, well-formed}
 use Rattle.reading.specs.Bounds.{maxByte}
-use Rattle.reading.specs.Laid.{firstState}
+use Rattle.reading.specs.declared.settings.Settings.{Settings}
+use Rattle.reading.specs.Laid.{SettingsOf}
 use Rattle.reading.specs.RowParts.{index-seconds, outcomes-read}
 use Rattle.reading.specs.Tests.{outcomesIn}
 use Rattle.exchanging.specs.Puts.{Puts}
-use Rattle.exchanging.specs.Forms.{formOf, formCount, rowCodes, Accepted, Counted, rowAs, codeAs, FormAsked}
+use Rattle.exchanging.specs.Forms.{formOf, formCount, rowCodes, Accepted, Counted, rowAs, codeAs, formLength, FormAsked}
 use Rattle.exchanging.proofs.Inserting.{codes-length, codes-bytes}
 use Rattle.exchanging.proofs.RowLoops.{RowPart}
 use Rattle.exchanging.proofs.Runs.{Listed, listed-starts, listed-goes-on, puts-long, puts-then, puts-same}
@@ -51,7 +56,7 @@ module _ {f index : List ℕ} (h : Accepted f index) (part : List ℕ) (r : ℕ)
         few = formed .states-high;
         leads = λ o i. formed .successor-state r l o (rw e at i);
         weighs = λ o i. formed .weight-low r l o (rw e at i);
-        total = ap totalWeight e ∙ formed .weights r l;
+        total = omega (arith, ap totalWeight e, formed .weights r l, total-high formed);
       }
 
   -- gathered, it is the row in set form
@@ -92,10 +97,45 @@ module _ {f index : List ℕ} (h : Accepted f index) where
 
 pub form-size
     : (f : List ℕ)
-    → length (setForm f) ≡ firstState + 6 * problemOf f .states + 2 + 4 * problemOf f .rows + 2
-    + 4 * outcomesTo (formOf f) (problemOf f .rows)
+    → length (setForm f)
+    ≡ formLength (settingNumber (formOf f)) (problemOf f .states) (problemOf f .rows) (outcomesTo (formOf f) (problemOf f .rows))
 unfolding setForm inSetForm
 form-size f = encode-length (formOf f) ∙ omega arith
+
+-- the settings, by whether a fourth is put
+
+pub number-is : (f : List ℕ) {total : ℕ} → total ≡ problemOf f .total → settingsOn (eqb total thousandths) ≡ settingNumber (formOf f)
+unfolding settingNumber inSetForm
+number-is f e = ap (λ W. settingsOn (eqb W thousandths)) e
+
+module _ {f : List ℕ} {set : Settings} (s : SettingsOf f set) where
+  settings-as
+      : numberBytes 4 (set .start)
+      ++ (numberBytes 4 (set .tolerance) ++ (numberBytes 4 (set .penalty) ++ fourthOn (eqb (set .total) thousandths) (set .total)))
+      ≡ settingBytes (formOf f)
+  unfolding settingBytes inSetForm
+  settings-as =
+      ap₂ _++_ (ap (numberBytes 4) (s .start-is))
+      (ap₂ _++_ (ap (numberBytes 4) (s .tolerance-is))
+      (ap₂ _++_ (ap (numberBytes 4) (s .penalty-is)) (ap (λ W. fourthOn (eqb W thousandths) W) (s .total-is))))
+
+  pub three-settings
+      : set .total ≡ thousandths
+      → numberBytes 4 (set .start) ++ (numberBytes 4 (set .tolerance) ++ numberBytes 4 (set .penalty)) ≡ settingBytes (formOf f)
+  three-settings e =
+      ap (λ l. numberBytes 4 (set .start) ++ (numberBytes 4 (set .tolerance) ++ l)) (sym (append-nil (numberBytes 4 (set .penalty))))
+      ∙ (rw (eq-eqb _ _ e) at settings-as)
+
+  pub four-settings
+      : (set .total ≡ thousandths → ⊥)
+      → numberBytes 4 (set .start)
+      ++ (numberBytes 4 (set .tolerance) ++ (numberBytes 4 (set .penalty) ++ numberBytes 4 (set .total)))
+      ≡ settingBytes (formOf f)
+  four-settings e = rw (ne-eqb _ _ e) at settings-as
+
+  -- there is room for the fourth
+  pub four-room : (set .total ≡ thousandths → ⊥) → settingNumber (formOf f) ≡ 4
+  four-room e = sym (number-is f (s .total-is)) ∙ rw (ne-eqb _ _ e) refl
 
 -- gathering row after row
 
@@ -161,7 +201,7 @@ unfolding inSetForm
 small {f} h r l o i =
     let formed = form-encodable f (h .passed) .formed in (
       omega (arith, formed .successor-state r l o i, formed .states-high),
-      omega (arith, weight-high (formOf f .outcomes r) o i, formed .weights r l),
+      omega (arith, weight-high (formOf f .outcomes r) o i, formed .weights r l, total-high formed),
     )
 
 pub code-size : (table : List ℕ) (n : ℕ) → length (partsTo (codeAs table) n) ≡ 4 * n
@@ -186,36 +226,37 @@ rows-bytes {f} h (suc k) l =
 -- the form as a whole: each section has room after the ones before it, and together they are the form
 module _ {f index counts table : List ℕ} {outcomes : ℕ} {out : List ℕ}
     (asked : FormAsked f index counts table outcomes out) where
-  pub settings-room : firstState ≤ length out
+  pub settings-room : 2 + 4 * settingNumber (formOf f) ≤ length out
   settings-room = omega (arith, form-size f, asked .room)
 
   module _ {states rows : ℕ} (states-are : states ≡ problemOf f .states) (rows-are : rows ≡ problemOf f .rows)
-      {out₁ : List ℕ} {at₁ : ℕ} (p₁ : Puts out out₁ 0 at₁ (numberBytes 2 settingCount ++ settingBytes (formOf f))) where
-    settings-end : at₁ + 2 ≡ firstState
+      {out₁ : List ℕ} {at₁ : ℕ} (p₁ : Puts out out₁ 0 at₁ (numberBytes 2 (settingNumber (formOf f)) ++ settingBytes (formOf f))) where
+    settings-end : at₁ ≡ 2 + 4 * settingNumber (formOf f)
     settings-end =
-        let size = length-append (numberBytes 2 settingCount) (settingBytes (formOf f)) in
-        omega (arith, p₁ .ends, size, number-length 2 settingCount, settings-long (formOf f))
+        let number = settingNumber (formOf f) in
+        let size = length-append (numberBytes 2 number) (settingBytes (formOf f)) in
+        omega (arith, p₁ .ends, size, number-length 2 number, settings-long (formOf f))
 
     pub states-room : at₁ + 2 + 6 * states ≤ length out₁
     states-room = omega (arith, form-size f, asked .room, puts-long p₁, settings-end, states-are)
 
     module _ {out₂ : List ℕ} {at₂ : ℕ}
         (p₂ : Puts out₁ out₂ at₁ at₂ (numberBytes 2 states ++ partsTo (stateBytes (formOf f)) states)) where
-      states-end : at₂ ≡ firstState + 6 * states
+      states-end : at₂ ≡ at₁ + 2 + 6 * states
       states-end =
           let size = length-append (numberBytes 2 states) (partsTo (stateBytes (formOf f)) states) in
-          omega (arith, p₂ .ends, size, number-length 2 states, states-long (formOf f) states, settings-end)
+          omega (arith, p₂ .ends, size, number-length 2 states, states-long (formOf f) states)
 
       pub rows-room : at₂ + 2 + 4 * rows ≤ length out₂
       rows-room =
-          omega (arith, form-size f, asked .room, puts-long p₁, puts-long p₂, states-end, states-are, rows-are)
+          omega (arith, form-size f, asked .room, puts-long p₁, puts-long p₂, settings-end, states-end, states-are, rows-are)
 
       module _ {out₃ : List ℕ} {at₃ : ℕ}
           (p₃ : Puts out₂ out₃ at₂ at₃ (numberBytes 2 rows ++ partsTo (rowAs index counts) rows)) where
-        rows-end : at₃ ≡ firstState + 6 * states + 2 + 4 * rows
+        rows-end : at₃ ≡ at₂ + 2 + 4 * rows
         rows-end =
             let size = length-append (numberBytes 2 rows) (partsTo (rowAs index counts) rows) in
-            omega (arith, p₃ .ends, size, number-length 2 rows, rows-size index counts rows, states-end)
+            omega (arith, p₃ .ends, size, number-length 2 rows, rows-size index counts rows)
 
         pub outcomes-room : at₃ + 2 + 4 * outcomes ≤ length out₃
         outcomes-room =
@@ -227,6 +268,8 @@ module _ {f index counts table : List ℕ} {outcomes : ℕ} {out : List ℕ}
               puts-long p₁,
               puts-long p₂,
               puts-long p₃,
+              settings-end,
+              states-end,
               rows-end,
               states-are,
               rows-are,
@@ -244,7 +287,7 @@ module _ {f index counts table : List ℕ} {outcomes : ℕ} {out : List ℕ}
           unfolding setForm encode inSetForm
           whole =
               puts-same (puts-then p₁ (puts-then p₂ (puts-then p₃ p₄)))
-              (ap (λ l. (numberBytes 2 settingCount ++ settingBytes (formOf f)) ++ l)
+              (ap (λ l. (numberBytes 2 (settingNumber (formOf f)) ++ settingBytes (formOf f)) ++ l)
               (ap₂ _++_
               (ap (λ n. numberBytes 2 n ++ partsTo (stateBytes (formOf f)) n) states-are)
               (ap₂ _++_

@@ -1,6 +1,6 @@
 -- What writing a set form asks for and leaves.
 use mathlib.Core.Path.{_≡_}
-use Prim.Native.Nat.{ℕ, _<_, _≤_}
+use Prim.Native.Nat.{ℕ, _+_, _*_, _<_, _≤_}
 use mathlib.Core.List.{List, _∷_}
 use lib.ListN.{length, getD, take}
 use Rattle.model.specs.Bytes.{numberBytes}
@@ -40,6 +40,10 @@ rowCodes f = λ r. codes (formOf f .outcomes r)
 -- the bytes of the outcome whose code is entry i of a table
 abbrev pub codeAs : List ℕ → ℕ → List ℕ
 codeAs table = λ i. numberBytes 4 (getD table i 0)
+
+-- how long a form of so many settings, states, rows and outcomes is: each section has its count and its items
+abbrev pub formLength : ℕ → ℕ → ℕ → ℕ → ℕ
+formLength settings states rows outcomes = 2 + 4 * settings + 2 + 6 * states + 2 + 4 * rows + 2 + 4 * outcomes
 
 -- what putting the whole form asks for: the table has the codes of all its outcomes, one row after the other
 pub record FormAsked (f index counts table : List ℕ) (outcomes : ℕ) (out : List ℕ) : Type 0 where

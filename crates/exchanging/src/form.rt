@@ -5,9 +5,10 @@ use crate::putting::put16;
 use crate::putting::put32;
 use model::MAX_OUTCOMES;
 use model::MAX_ROWS;
-use model::SETTING_COUNT;
+use model::MAX_SETTINGS;
+use model::MIN_SETTINGS;
+use model::THOUSANDTHS;
 use reading::index::INDEX;
-use reading::layout::FIRST_STATE;
 use reading::layout::layout_of;
 use reading::outcomes::seconds_of;
 use reading::settings::settings_of;
@@ -17,18 +18,18 @@ use reading::states::row_count_of;
 ghost use mathlib.Core.Path.{_≡_};
 ghost use mathlib.Core.List.{_++_};
 ghost use Prim.Native.Nat.{_+_, _*_, _≤_, _<_};
+ghost use lib.Dec.{eqb};
 ghost use lib.ListN.{length};
 ghost use Rattle.model.specs.Buffers.{copied};
 ghost use Rattle.model.specs.Bytes.{numberBytes};
-ghost use Rattle.model.specs.Encoding.{partsTo, settingBytes, goalByte, stateBytes};
-ghost use Rattle.model.specs.Limits.{settingCount, maxStates, maxRows, maxOutcomes};
+ghost use Rattle.model.specs.Encoding.{partsTo, settingsOn, settingNumber, settingBytes, goalByte, stateBytes};
+ghost use Rattle.model.specs.Limits.{thousandths, maxSettings, maxStates, maxRows, maxOutcomes};
 ghost use Rattle.model.specs.Questions.{passes, layoutQuestions};
 ghost use Rattle.model.specs.Rounds.{fillTo};
 ghost use Rattle.model.specs.Sections.{problemOf};
 ghost use Rattle.model.specs.SetForm.{setForm};
-ghost use Rattle.reading.specs.Laid.{firstState};
 ghost use Rattle.exchanging.specs.Puts.{Puts};
-ghost use Rattle.exchanging.specs.Forms.{formOf, formCount, rowCodes, Accepted, rowAs, codeAs, FormAsked};
+ghost use Rattle.exchanging.specs.Forms.{formOf, formCount, rowCodes, Accepted, rowAs, codeAs, formLength, FormAsked};
 
 // Gathers the outcomes of the rows into the table, one row after the other, and fills in how many each has. Answers how many there
 // are in all.
@@ -56,27 +57,42 @@ pub fn gather_rows(
     total
 }
 
-// How long the form of so many states, rows and outcomes is.
-pub fn form_length(states: usize, rows: usize, outcomes: usize) -> usize
-    requires { ⌜ (states ≤ maxStates) × (rows ≤ maxRows) × (outcomes ≤ maxOutcomes) ⌝ }
-    ensures { λ r. ⌜ r ≡ firstState + 6 * states + 2 + 4 * rows + 2 + 4 * outcomes ⌝ }
+// How many settings the form has: four, unless the weight total is 1,000.
+pub fn setting_number(total: u32) -> u32
+    ensures { λ r. ⌜ r ≡ settingsOn (eqb total thousandths) ⌝ }
 {
-    FIRST_STATE + 6 * states + 2 + 4 * rows + 2 + 4 * outcomes
+    if total == THOUSANDTHS {
+        MIN_SETTINGS
+    } else {
+        MAX_SETTINGS
+    }
+}
+
+// How long the form of so many settings, states, rows and outcomes is.
+pub fn form_length(settings: u32, states: usize, rows: usize, outcomes: usize) -> usize
+    requires { ⌜ (settings ≤ maxSettings) × (states ≤ maxStates) × (rows ≤ maxRows) × (outcomes ≤ maxOutcomes) ⌝ }
+    ensures { λ r. ⌜ r ≡ formLength settings states rows outcomes ⌝ }
+{
+    2 + 4 * (settings as usize) + 2 + 6 * states + 2 + 4 * rows + 2 + 4 * outcomes
 }
 
 // Puts the settings at the front, after their count.
 fn put_settings(file: &[u8], out: &mut [u8]) -> usize
-    requires { ⌜ (layoutQuestions (now file) ≡ passes) × (firstState ≤ length (now out)) ⌝ }
+    requires { ⌜ (layoutQuestions (now file) ≡ passes) × (2 + 4 * settingNumber (formOf (now file)) ≤ length (now out)) ⌝ }
     ensures { λ r.
         ⌜ Puts
         (now (out .entry)) (now (out .exit)) 0 r
-        (numberBytes 2 settingCount ++ settingBytes (formOf (now (file .entry)))) ⌝ }
+        (numberBytes 2 (settingNumber (formOf (now (file .entry)))) ++ settingBytes (formOf (now (file .entry)))) ⌝ }
 {
     let set = settings_of(file);
-    let at1 = put16(out, 0, SETTING_COUNT);
+    let at1 = put16(out, 0, setting_number(set.total));
     let at2 = put32(out, at1, set.start);
     let at3 = put32(out, at2, set.tolerance);
-    put32(out, at3, set.penalty)
+    let at4 = put32(out, at3, set.penalty);
+    if set.total == THOUSANDTHS {
+        return at4;
+    }
+    put32(out, at4, set.total)
 }
 
 // The byte of a goal, or of a state that is none.

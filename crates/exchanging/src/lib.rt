@@ -6,6 +6,7 @@ mod putting;
 use crate::form::form_length;
 use crate::form::gather_rows;
 use crate::form::put_form;
+use crate::form::setting_number;
 use checking::questions::questions;
 use model::FileAnswer;
 use model::FormAnswer;
@@ -13,6 +14,7 @@ use model::MAX_OUTCOMES;
 use model::MAX_ROWS;
 use reading::index::INDEX;
 use reading::layout::layout_of;
+use reading::settings::total_of;
 ghost use Rattle.model.specs.Promises.{Exchanges};
 ghost use Rattle.model.specs.SetForm.{exchange};
 
@@ -30,7 +32,7 @@ pub fn set_form(file: &[u8], out: &mut [u8]) -> FormAnswer
     let mut table = [0u32; MAX_OUTCOMES];
     let mut counts = [0u8; MAX_ROWS];
     let outcomes = gather_rows(file, &index, l.rows, &mut table, &mut counts);
-    let length = form_length(l.states, l.rows, outcomes);
+    let length = form_length(setting_number(total_of(file)), l.states, l.rows, outcomes);
     if out.len() < length {
         return FormAnswer::Refused {
             question: 23,

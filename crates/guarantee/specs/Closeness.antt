@@ -10,7 +10,7 @@ use mathlib.Core.List.{List, map}
 use mathlib.Core.Logic.{_⊎_, inl, inr}
 use lib.Dec.{eqb}
 use borrow.Author.Tests.{eq-eqb}
-use Rattle.model.specs.Limits.{ticksPerSecond, weightTotal, giveUp}
+use Rattle.model.specs.Limits.{ticksPerSecond, giveUp}
 use Rattle.model.specs.Problem.{Problem, Outcome, giveUpCost, ownRow}
 use Rattle.model.specs.Value.{rowTicks, rowValue, weightedSum, byState}
 use Rattle.model.specs.Sections.{problemOf}
@@ -18,6 +18,7 @@ use Rattle.model.specs.Walk.{In, here, there, next, Reached, at-start, along, p
 use Rattle.model.specs.Audit.{accepted, pickValueOn, pickValue, tableQuestions, audit}
 use Rattle.model.specs.Cover.{Choice, picks-row, gives-up, picks-nothing, CoversAt, Cover, choiceOn, planOf}
 use Rattle.model.specs.Promises.{Close}
+use Rattle.guarantee.specs.Totals.{total-low}
 use Rattle.guarantee.specs.WellFormed.{WellFormed}
 use Rattle.guarantee.specs.Rows.{own-low, own-high}
 use Rattle.guarantee.specs.Undercuts.{NoUndercut}
@@ -43,12 +44,12 @@ module _ (p : Problem) (formed : WellFormed p) (v : ℕ → ℕ) (zeros : (s : �
           let os = p .outcomes r in
           let row : r < p .rows = own-row p formed s r inner (covers .0) in
           let value : v s ≤ rowValue p v r = under s r inner (own-low p s r (covers .0)) (own-high p s r (covers .0)) in
-          let low : weightTotal * v s ≤ weightTotal * rowTicks p r + weightedSum os v =
-          omega (arith, rowValue-low p r v) in
-          let sums = row-full weightTotal K (suc M) (rowTicks p r) (v s) (u s) (weightedSum os v) (weightedSum os u) low (covers .2) full in
+          let low : p .total * v s ≤ p .total * rowTicks p r + weightedSum os v =
+          omega (arith, rowValue-low p r v, mul-le-mul-left (p .total) value) in
+          let sums = row-full (p .total) K (suc M) (rowTicks p r) (v s) (u s) (weightedSum os v) (weightedSum os u) low (covers .2) full in
           let below =
-          row-small weightTotal K (suc M) (rowTicks p r) (v s) (u s) (weightedSum os v) (weightedSum os u)
-          low (covers .2) some (omega arith)
+          row-small (p .total) K (suc M) (rowTicks p r) (v s) (u s) (weightedSum os v) (weightedSum os u)
+          low (covers .2) some (total-low formed)
           (omega (arith, formed .cost-low r row)) in
           let small = some-small os u (u s) (rw (formed .weights r row) below) in
           let t = small .outcome .successor in
@@ -123,7 +124,7 @@ module _ (p : Problem) (formed : WellFormed p) (v picks : ℕ → ℕ) (C : ℕ)
         let r = picks s in
         let sum = weightedSum (p .outcomes r) v in
         let bound =
-        row-close weightTotal (C - p .tolerance) (p .tolerance) (rowTicks p r) (v s) (rowValue p v r) sum (rowValue-high p r v)
+        row-close (p .total) (C - p .tolerance) (p .tolerance) (rowTicks p r) (v s) (rowValue p v r) sum (rowValue-high p r (total-low formed) v)
         (omega (arith, formed .tolerance-low)) (omega (arith, tolerance-back)) in
         (own, leads own, rw (weightedSum-scale (p .outcomes r) v C) (rw tolerance-back at bound))
 

@@ -7,12 +7,14 @@ use mathlib.Core.Bool.{Bool, true, false}
 use mathlib.Core.List.{List, [], _∷_, _++_}
 use lib.Dec.{eqb}
 use lib.ListN.{length, drop, length-append}
+use borrow.Author.Tests.{eqb-true}
 use Rattle.model.specs.Bytes.{u16At, numberBytes}
-use Rattle.model.specs.Encoding.{encode, partsTo, settingBytes, goalByte, stateBytes, rowBytes, outcomeBytes, outcomesTo}
-use Rattle.model.specs.Limits.{settingCount, maxOutcomes}
+use Rattle.model.specs.Encoding.{encode, partsTo, settingsOn, fourthOn, settingNumber, settingBytes, goalByte, stateBytes, rowBytes}
+use Rattle.model.specs.Encoding.{outcomeBytes, outcomesTo}
+use Rattle.model.specs.Limits.{minSettings, maxSettings, thousandths, maxOutcomes}
 use Rattle.model.specs.Problem.{Problem, Outcome}
 use Rattle.model.specs.Search.{sumTo}
-use Rattle.model.specs.Sections.{statesAt, rowsAt, outcomesAt, settingOf, stateAt, estimateOf, rowCountOf, goalByteOf}
+use Rattle.model.specs.Sections.{statesAt, rowsAt, outcomesAt, settingOf, totalOf, stateAt, estimateOf, rowCountOf, goalByteOf}
 use Rattle.model.specs.Sections.{firstRowOf, rowAt, kindOf, outcomeCountOf, costNumberOf, secondsOn}
 use Rattle.model.specs.Sections.{firstOutcomeOf, outcomeAt, outcomesFrom, outcomesOf, problemOf}
 use Rattle.model.specs.Walk.{In, here, there}
@@ -23,6 +25,7 @@ use Rattle.guarantee.specs.Standing.{item-stands, section-same}
 use Rattle.guarantee.specs.Sums.{sum-same}
 use Rattle.guarantee.specs.TableFiles.{number-length}
 use Rattle.guarantee.specs.Walks.{rows-sum}
+use Rattle.guarantee.specs.Totals.{maxTotal, total-high}
 use Rattle.guarantee.specs.WellFormed.{WellFormed}
 
 -- the data of a file: well formed, with no more outcomes than a file has
@@ -35,6 +38,7 @@ pub record Says (p q : Problem) : Type 0 where
   pub start : p .start ≡ q .start
   pub tolerance : p .tolerance ≡ q .tolerance
   pub penalty : p .penalty ≡ q .penalty
+  pub total : p .total ≡ q .total
   pub states : p .states ≡ q .states
   pub rows : p .rows ≡ q .rows
   pub estimates : (s : ℕ) → s < p .states → p .estimate s ≡ q .estimate s
@@ -47,7 +51,7 @@ pub record Says (p q : Problem) : Type 0 where
 -- The four sections, and where each stands: behind the one before it.
 
 abbrev settingSection : Problem → List ℕ
-settingSection p = numberBytes 2 settingCount ++ settingBytes p
+settingSection p = numberBytes 2 (settingNumber p) ++ settingBytes p
 
 abbrev stateSection : Problem → List ℕ
 stateSection p = numberBytes 2 (p .states) ++ partsTo (stateBytes p) (p .states)
@@ -61,11 +65,11 @@ rowOutcomes p r = outcomeBytes (p .outcomes r)
 abbrev outcomeSection : Problem → List ℕ
 outcomeSection p = numberBytes 2 (outcomesTo p (p .rows)) ++ partsTo (rowOutcomes p) (p .rows)
 
-abbrev statesPlace : ℕ
-statesPlace = 2 + 4 * settingCount
+abbrev statesPlace : Problem → ℕ
+statesPlace p = 2 + 4 * settingNumber p
 
 abbrev rowsPlace : Problem → ℕ
-rowsPlace p = statesPlace + 2 + 6 * p .states
+rowsPlace p = statesPlace p + 2 + 6 * p .states
 
 abbrev outcomesPlace : Problem → ℕ
 outcomesPlace p = rowsPlace p + 2 + 4 * p .rows
@@ -77,10 +81,32 @@ unfolding outcomeBytes
 outcomes-length [] = omega arith
 outcomes-length (o ∷ os) = simp (length-append, number-length, outcomes-length os) (omega arith)
 
+settings-on-low : (b : Bool) → minSettings ≤ settingsOn b
+settings-on-low true = omega arith
+settings-on-low false = omega arith
+
+pub settings-on-high : (b : Bool) → settingsOn b ≤ maxSettings
+settings-on-high true = omega arith
+settings-on-high false = omega arith
+
+fourth-length : (b : Bool) (total : ℕ) → 4 * minSettings + length (fourthOn b total) ≡ 4 * settingsOn b
+fourth-length true total = refl
+fourth-length false total = rw (number-length 4 total) refl
+
 module _ (p : Problem) where
-  pub settings-long : length (settingBytes p) ≡ 4 * settingCount
-  unfolding settingBytes
-  settings-long = simp (length-append, number-length)
+  pub settings-long : length (settingBytes p) ≡ 4 * settingNumber p
+  unfolding settingBytes settingNumber
+  settings-long =
+      simp (length-append, number-length) (omega (arith, fourth-length (eqb (p .total) thousandths) (p .total)))
+
+  -- there are 3 or 4 settings
+  pub setting-number-low : minSettings ≤ settingNumber p
+  unfolding settingNumber
+  setting-number-low = settings-on-low (eqb (p .total) thousandths)
+
+  pub setting-number-high : settingNumber p ≤ maxSettings
+  unfolding settingNumber
+  setting-number-high = settings-on-high (eqb (p .total) thousandths)
 
   pub states-long : (k : ℕ) → length (partsTo (stateBytes p) k) ≡ 6 * k
   unfolding stateBytes
@@ -100,12 +126,12 @@ module _ (p : Problem) where
 
 record SectionsStand (p : Problem) (f : List ℕ) : Type 0 where
   settings : At f 0 (settingSection p)
-  states : At f statesPlace (stateSection p)
+  states : At f (statesPlace p) (stateSection p)
   rows : At f (rowsPlace p) (rowSection p)
   outcomes : At f (outcomesPlace p) (outcomeSection p)
 
 module _ (p : Problem) where
-  pub encode-length : length (encode p) ≡ statesPlace + 6 + 6 * p .states + 4 * p .rows + 4 * outcomesTo p (p .rows)
+  pub encode-length : length (encode p) ≡ statesPlace p + 6 + 6 * p .states + 4 * p .rows + 4 * outcomesTo p (p .rows)
   unfolding encode
   encode-length =
       simp (length-append, number-length, settings-long p, states-long p (p .states), rows-long p (p .rows))
@@ -115,7 +141,7 @@ module _ (p : Problem) where
   unfolding encode
   encode-stands =
       let whole = at-whole (encode p) in
-      let states = at-right (settingSection p) _ statesPlace
+      let states = at-right (settingSection p) _ (statesPlace p)
       (simp (length-append, number-length) (omega (arith, settings-long p))) whole in
       let rows = at-right (stateSection p) _ (rowsPlace p)
       (simp (length-append, number-length) (omega (arith, states-long p (p .states)))) states in
@@ -137,9 +163,9 @@ module _ (p q : Problem) (h : Says p q) where
 
   -- the bytes hang on these data alone
   pub encode-same : encode p ≡ encode q
-  unfolding encode settingBytes stateBytes rowBytes
+  unfolding encode settingNumber settingBytes stateBytes rowBytes
   encode-same =
-      let settings : settingSection p ≡ settingSection q = rw (h .start, h .tolerance, h .penalty) refl in
+      let settings : settingSection p ≡ settingSection q = rw (h .start, h .tolerance, h .penalty, h .total) refl in
       let states = section-same (stateBytes p) (stateBytes q) (h .states) (h .states)
       (λ s l. rw (h .estimates s l, h .row-counts s l, h .goals s l) refl) in
       let rows = section-same (rowBytes p) (rowBytes q) (h .rows) (h .rows)
@@ -166,6 +192,13 @@ outcomes-read b i (o ∷ os) small h =
     ap₂ _∷_ (ap₂ (λ x y. record { successor = x; weight = y }) lead weigh)
     (outcomes-read b (suc i) os (λ o i. small o (there i)) next)
 
+-- the total, from a fourth setting or from there being none
+total-read
+    : (f : List ℕ) (W : ℕ) → W ≤ maxTotal → (b : Bool) → eqb W thousandths ≡ b → u16At f 0 ≡ settingsOn b
+    → At f (2 + 4 * 3) (fourthOn b W) → totalOf f ≡ W
+total-read f W small true e count h = rw count (sym (eqb-true W thousandths e))
+total-read f W small false e count h = rw count (u32-at W h (omega arith))
+
 module _ (p : Problem) (fits : Encodable p) where
   abbrev f : List ℕ
   f = encode p
@@ -177,10 +210,10 @@ module _ (p : Problem) (fits : Encodable p) where
   stands = encode-stands p
 
   -- the counts and their places
-  pub settings-count : u16At f 0 ≡ settingCount
-  settings-count = count-read settingCount _ refl (omega arith) (stands .settings)
+  pub settings-count : u16At f 0 ≡ settingNumber p
+  settings-count = count-read (settingNumber p) _ refl (omega (arith, setting-number-high p)) (stands .settings)
 
-  pub states-place : statesAt f ≡ statesPlace
+  pub states-place : statesAt f ≡ statesPlace p
   unfolding statesAt
   states-place = omega (arith, settings-count)
 
@@ -203,14 +236,18 @@ module _ (p : Problem) (fits : Encodable p) where
       count-read (outcomesTo p (p .rows)) _ outcomes-place (omega (arith, fits .outcomes-fit)) (stands .outcomes)
 
   -- the items
-  settings-read : (settingOf f 0 ≡ p .start) × (settingOf f 1 ≡ p .tolerance) × (settingOf f 2 ≡ p .penalty)
-  unfolding settingBytes
+  settings-read
+      : (settingOf f 0 ≡ p .start) × (settingOf f 1 ≡ p .tolerance) × (settingOf f 2 ≡ p .penalty) × (totalOf f ≡ p .total)
+  unfolding settingNumber settingBytes
   settings-read =
-      let all = number-then 2 settingCount _ (stands .settings) in
-      let later = number-then 4 (p .start) _ all in (
+      let all = number-then 2 (settingNumber p) _ (stands .settings) in
+      let later = number-then 4 (p .start) _ all in
+      let last = number-then 4 (p .tolerance) _ later in (
         u32-at (p .start) (number-here 4 (p .start) _ all) (omega (arith, formed .start-state, formed .states-high)),
         u32-at (p .tolerance) (number-here 4 (p .tolerance) _ later) (omega (arith, formed .tolerance-high)),
-        u32-at (p .penalty) (number-then 4 (p .tolerance) _ later) (omega (arith, formed .penalty-high)),
+        u32-at (p .penalty) (number-here 4 (p .penalty) _ last) (omega (arith, formed .penalty-high)),
+        total-read f (p .total) (total-high formed) (eqb (p .total) thousandths) refl settings-count
+            (number-then 4 (p .penalty) _ last),
       )
 
   pub state-read
@@ -259,7 +296,7 @@ module _ (p : Problem) (fits : Encodable p) where
       ∙ outcomes-read (drop (outcomeAt f r) f) 0 (p .outcomes r)
       (λ o i. (
         omega (arith, formed .successor-state r l o i, formed .states-high),
-        omega (arith, weight-high (p .outcomes r) o i, formed .weights r l),
+        omega (arith, weight-high (p .outcomes r) o i, formed .weights r l, total-high formed),
       ))
       (at-inside part)
 
@@ -270,6 +307,7 @@ module _ (p : Problem) (fits : Encodable p) where
         start = sym (settings-read .0);
         tolerance = sym (settings-read .1);
         penalty = sym (settings-read .2);
+        total = sym (settings-read .3);
         states = sym states-count;
         rows = sym rows-count;
         estimates = λ s l. sym (state-read s l .0);

@@ -116,5 +116,5 @@ audit-excess f values picks = step (fileQuestions f) refl .fitting
         fits-else _ (leb (problemOf f .states) (length picks)) _ _ (λ n. elsewhere _ 15 _ (λ h. omega arith) (λ h. omega arith))
         λ y. table-excess (problemOf f) (byState values) (byState picks) (well-formed f e .tolerance-low)
     step (fails q i) e =
-        let low : q ≤ 11 = early-number (early-file f) q i e in
-        elsewhere _ q i (λ h. omega arith) (λ h. omega arith)
+        let late = early-number (early-file f) q i e in
+        elsewhere _ q i (λ h. omega (arith, late (omega arith))) (λ h. omega (arith, late (omega arith)))

@@ -4,19 +4,22 @@ use mathlib.Core.Path.{_≡_, refl, sym, _∙_, ap, subst}
 use Prim.Native.Nat.{ℕ, _+_, _*_, _/_, _≤_, _<_}
 use native.Mathlib.Omega.{arith}
 use mathlib.Core.List.{List}
+use mathlib.Core.Bool.{Bool, true, false}
+use lib.Dec.{eqb}
 use lib.ListN.{length, drop}
+use borrow.Author.Tests.{eqb-false}
 use Rattle.model.specs.Audit.{audit}
 use Rattle.model.specs.Bytes.{u16At}
-use Rattle.model.specs.Encoding.{outcomesTo}
-use Rattle.model.specs.Limits.{maxOutcomes, weightTotal}
+use Rattle.model.specs.Encoding.{settingsOn, settingNumber, outcomesTo}
+use Rattle.model.specs.Limits.{minSettings, thousandths, maxOutcomes}
 use Rattle.model.specs.Problem.{Problem, Outcome}
 use Rattle.model.specs.Questions.{passes, fileQuestions}
-use Rattle.model.specs.Sections.{outcomesAt, outcomeCountOf, outcomeAt, problemOf}
+use Rattle.model.specs.Sections.{settingOf, totalOn, outcomesAt, outcomeCountOf, outcomeAt, problemOf}
 use Rattle.model.specs.SetForm.{weightTo, chance, gathered, inSetForm, setForm, Same}
 use Rattle.model.specs.Value.{weightedSum, rowTicks, rowValue, rowRemainder}
 use Rattle.guarantee.specs.Chances.{LeadsBelow, weighted-by-chance, gathered-in, gathered-chance}
 use Rattle.guarantee.specs.Chances.{gathered-same, gathered-few, gathered-total}
-use Rattle.guarantee.specs.Encodings.{Encodable, Says, encode-length, encode-reads, encode-same}
+use Rattle.guarantee.specs.Encodings.{Encodable, Says, settings-on-high, settings-count, encode-length, encode-reads, encode-same}
 use Rattle.guarantee.specs.Parts.{outcomes-count}
 use Rattle.guarantee.specs.Passing.{encode-passes}
 use Rattle.guarantee.specs.Sames.{same-sym, same-trans, same-rows, same-values, same-remainders, same-audits}
@@ -31,6 +34,7 @@ says-same p q h =
       start = h .start;
       tolerance = h .tolerance;
       penalty = h .penalty;
+      total = h .total;
       states = h .states;
       estimates = h .estimates;
       goals = h .goals;
@@ -58,6 +62,7 @@ form-same p =
       start = refl;
       tolerance = refl;
       penalty = refl;
+      total = refl;
       states = refl;
       estimates = λ s l. refl;
       goals = λ s l. refl;
@@ -71,7 +76,7 @@ module _ (p : Problem) (formed : WellFormed p) where
   gathered-value : (v : ℕ → ℕ) (r : ℕ) → r < p .rows → rowValue p v r ≡ rowValue (inSetForm p) v r
   unfolding rowValue inSetForm
   gathered-value v r l =
-      ap (λ n. rowTicks p r + n / weightTotal)
+      ap (λ n. rowTicks p r + n / p .total)
       (gathered-weighted (p .outcomes r) v (p .states) (formed .successor-state r l))
 
   pub form-formed : WellFormed (inSetForm p)
@@ -84,6 +89,7 @@ module _ (p : Problem) (formed : WellFormed p) where
         tolerance-high = formed .tolerance-high;
         penalty-low = formed .penalty-low;
         penalty-high = formed .penalty-high;
+        total-known = formed .total-known;
         states-high = formed .states-high;
         rows-high = formed .rows-high;
         rows-start = formed .rows-start;
@@ -121,6 +127,7 @@ forms-say p q formed formed′ h =
       start = h .start;
       tolerance = h .tolerance;
       penalty = h .penalty;
+      total = h .total;
       states = h .states;
       rows = same-rows p q formed formed′ h;
       estimates = h .estimates;
@@ -137,6 +144,19 @@ forms-say p q formed formed′ h =
           gathered-same (chance p r) (chance q r) 0 (p .states) (λ t low m. h .chances r t l (omega arith))
           ∙ ap (gathered (chance q r) 0) (h .states);
     }
+
+-- A file with 3 settings has the total that needs no fourth.
+
+no-fourth
+    : (f : List ℕ) (b : Bool) → eqb (u16At f 0) minSettings ≡ b → minSettings ≤ u16At f 0
+    → settingsOn (eqb (totalOn b (settingOf f 3)) thousandths) ≤ u16At f 0
+no-fourth f true e low = low
+no-fourth f false e low =
+    omega (arith, settings-on-high (eqb (settingOf f 3) thousandths), eqb-false (u16At f 0) minSettings e)
+
+few-settings : (f : List ℕ) → minSettings ≤ u16At f 0 → settingNumber (inSetForm (problemOf f)) ≤ u16At f 0
+unfolding settingNumber inSetForm problemOf
+few-settings f = no-fourth f (eqb (u16At f 0) minSettings) refl
 
 -- Accepted files.
 
@@ -162,7 +182,7 @@ module _ (f : List ℕ) (h : fileQuestions f ≡ passes) where
         outcomes-fit = omega (arith, form-outcomes (problemOf f) formed, file-outcomes);
       }
 
-  -- the set form is no longer than the file: what its outcomes take is all that can differ
+  -- the set form is no longer than the file: what its outcomes and a fourth setting take is all that can differ
   pub form-short : length (setForm f) ≤ length f
   unfolding setForm inSetForm problemOf
   form-short =
@@ -172,6 +192,7 @@ module _ (f : List ℕ) (h : fileQuestions f ≡ passes) where
         encode-length (inSetForm (problemOf f)),
         form-outcomes (problemOf f) (well-formed f h),
         outcomes-told,
+        few-settings f (sections .settings-low),
         sections .states-at,
         sections .rows-at,
         sections .outcomes-at,
@@ -182,6 +203,11 @@ module _ (f : List ℕ) (h : fileQuestions f ≡ passes) where
   pub form-passes : fileQuestions (setForm f) ≡ passes
   unfolding setForm
   form-passes = encode-passes (inSetForm (problemOf f)) form-encodable
+
+  -- it has 3 settings where the total is 1,000, and else 4
+  pub form-count : u16At (setForm f) 0 ≡ settingsOn (eqb (problemOf f .total) thousandths)
+  unfolding setForm inSetForm settingNumber
+  form-count = settings-count (inSetForm (problemOf f)) form-encodable
 
   -- it says the same data
   pub form-says-same : Same (problemOf f) (problemOf (setForm f))

@@ -7,9 +7,10 @@ use native.Mathlib.Omega.{arith}
 use mathlib.Core.Bool.{true, false}
 use mathlib.Core.Logic.{_⊎_, _↔_}
 use mathlib.Core.List.{List, [], _∷_}
+use lib.Dec.{eqb}
 use lib.IntN.{ℤ, pos}
 use lib.ListN.{getD, length}
-use Rattle.model.specs.Limits.{maxBudget, giveUp, noPick, maxMoves, weightTotal, minRate, maxRate}
+use Rattle.model.specs.Limits.{maxBudget, giveUp, noPick, maxMoves, minRate, maxRate}
 use Rattle.model.specs.Problem.{Problem, giveUpCost, ownRow}
 use Rattle.model.specs.Value.{byState, weightedSum, rowTicks, rowValue, rowRemainder}
 use Rattle.model.specs.Sections.{lengthSeconds, rateSeconds, kindOf, costNumberOf, problemOf}
@@ -24,7 +25,8 @@ use Rattle.model.specs.declared.Follower.{Follower}
 use Rattle.model.specs.Cover.{Choice, Cover, planOf}
 use Rattle.model.specs.Promises.{roundsEnough}
 use Rattle.model.specs.Sheets.{sheetText, tableText}
-use Rattle.model.specs.Encoding.{encode}
+use Rattle.model.specs.Bytes.{u16At}
+use Rattle.model.specs.Encoding.{settingsOn, encode}
 use Rattle.model.specs.SetForm.{setForm, Same}
 use Rattle.guarantee.specs.Rates.{seconds-rounded, rate-cost, table-printed}
 use Rattle.guarantee.specs.WellFormed.{well-formed}
@@ -50,7 +52,7 @@ use Rattle.guarantee.specs.Shifts.{outcome-missing, way-goes-on, moves-s
 use Rattle.guarantee.specs.Encodings.{Encodable, Says, encode-reads}
 use Rattle.guarantee.specs.Passing.{encode-passes}
 use Rattle.guarantee.specs.Forms.{form-short, forms-same, same-forms, form-passes, form-says-same, form-again, form-row-values}
-use Rattle.guarantee.specs.Forms.{form-row-remainders, form-audit, same-forms-audits}
+use Rattle.guarantee.specs.Forms.{form-row-remainders, form-audit, same-forms-audits, form-count}
 
 -- Demand 3: "Take any file, table V and plan that the audit accepts; e is the file's tolerance and C the least cost on the plan, both in
 -- ticks."
@@ -141,14 +143,14 @@ pub plan-gives-up-when-cheaper
     → giveUpCost (problemOf f) < rowValue (problemOf f) (byState (solution f budget t .tables .values)) r
 plan-gives-up-when-cheaper = answer-gives-up
 
--- Request E3: "The row value shall come with its remainder, 0 to 999": W × (value − 1000 × c) and the remainder are together the exact
--- sum, and the remainder is below W
+-- Request E3: "The row value shall come with its remainder, 0 to 999", and E7: "Remainders run below W.": W × (value − 1000 × c) and the
+-- remainder are together the exact sum, whatever W is, and the remainder is below every W of at least 1
 module _ (p : Problem) (v : ℕ → ℕ) (r : ℕ) where
-  pub value-with-remainder : weightTotal * (rowValue p v r - rowTicks p r) + rowRemainder p v r ≡ weightedSum (p .outcomes r) v
+  pub value-with-remainder : p .total * (rowValue p v r - rowTicks p r) + rowRemainder p v r ≡ weightedSum (p .outcomes r) v
   value-with-remainder = rowValue-exact p r v
 
-  pub remainder-low : rowRemainder p v r < weightTotal
-  remainder-low = rowRemainder-low p r v
+  pub remainder-low : 1 ≤ p .total → rowRemainder p v r < p .total
+  remainder-low some = rowRemainder-low p r some v
 
 -- "Each state line of `plan` ends with the remainder of its pick under the final values, 0 for `give`." Solved or spent, a state with a
 -- line (`HasLine`) gives up, and its remainder is 0, or takes one of its own rows, and its remainder is that row's (`PickLine`)
@@ -185,6 +187,10 @@ module _ (f : List ℕ) (file : fileQuestions f ≡ passes) where
   -- a set form is a file that questions 1 to 11 let through
   pub form-is-accepted : fileQuestions (setForm f) ≡ passes
   form-is-accepted = form-passes f file
+
+  -- Request E7: "The set form writes count 3 if W is 1,000", and else 4
+  pub form-setting-count : u16At (setForm f) 0 ≡ settingsOn (eqb (problemOf f .total) 1000)
+  form-setting-count = form-count f file
 
   -- and it says the same problem
   pub form-says-the-same : Same (problemOf f) (problemOf (setForm f))

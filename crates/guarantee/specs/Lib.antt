@@ -5,6 +5,7 @@ pub mod Searches
 pub mod Undercuts
 pub mod Rates
 pub mod WellFormed
+pub mod Totals
 pub mod Graphs
 pub mod Walks
 pub mod Accepted

@@ -1,41 +1,46 @@
--- Questions 1 to 11 carry the numbers 1 to 11, and questions 1 to 13 the numbers 1 to 13: no later number comes from them.
+-- Questions 1 to 11 carry the numbers 1 to 11 and 24, and questions 1 to 13 the numbers 1 to 13 and 24: no other number comes from them.
 -- A chain of questions has no later number than its parts; each part says its number.
 use mathlib.Core.Path.{_≡_}
-use Prim.Native.Nat.{ℕ, _+_, _≤_}
+use Prim.Native.Nat.{ℕ, _+_, _≤_, _<_}
 use native.Mathlib.Omega.{arith}
 use mathlib.Core.Bool.{Bool, true, false, _&&_, not}
 use mathlib.Core.List.{List}
 use lib.Dec.{leb, ltb, eqb}
 use lib.ListN.{length}
 use Rattle.model.specs.Bytes.{u16At}
-use Rattle.model.specs.Limits.{settingCount, maxStates, maxRows, maxOutcomes, maxTolerance, maxPenalty, weightTotal, maxBudget}
+use Rattle.model.specs.Limits.{minSettings, maxSettings, weightTotals, maxStates, maxRows, maxOutcomes, maxTolerance, maxPenalty}
+use Rattle.model.specs.Limits.{maxBudget}
 use Rattle.model.specs.Problem.{Problem, giveUpCost}
-use Rattle.model.specs.Search.{first, sumTo}
-use Rattle.model.specs.Value.{totalWeight}
+use Rattle.model.specs.Search.{first, sumTo, oneOf}
 use Rattle.model.specs.Sections.{sectionEnd, statesAt, rowsAt, outcomesAt, fileEnd, goalByteOf, kindOf, outcomeCountOf}
 use Rattle.model.specs.Sections.{costNumberOf, problemOf}
 use Rattle.model.specs.Questions.{Verdict, passes, fails, _then_, ask, askEach, between, sectionQuestions, endQuestion, layoutQuestions}
 use Rattle.model.specs.Questions.{settingQuestions, stateObeys, stateQuestion, startQuestion, rowNumberQuestion, rowObeys, rowQuestion}
-use Rattle.model.specs.Questions.{outcomeNumberQuestion, outcomesObey, outcomeQuestion, undercutState, estimateQuestion, itemQuestions}
+use Rattle.model.specs.Questions.{outcomeNumberQuestion, rowSound, outcomeQuestion, undercutState, estimateQuestion, itemQuestions}
 use Rattle.model.specs.Questions.{fileQuestions}
 use Rattle.model.specs.Solution.{Tables, solveQuestions}
 
--- a verdict that passes, or fails under a number of at most `last`
+-- a verdict that passes, or fails under a number of at most `last` or under 24, which belongs to 4
 pub data Early (last : ℕ) : Verdict → Type 0 where
   passed : Early last passes
   failed : {q i : ℕ} → q ≤ last → Early last (fails q i)
+  no-total : {i : ℕ} → Early last (fails 24 i)
 
-pub early-number : {last : ℕ} {v : Verdict} → Early last v → (q i : ℕ) → v ≡ fails q i → q ≤ last
-early-number passed q i e = let z : _≡_ {A = ℕ} 0 1 = cc in absurd (omega arith)
-early-number (failed {q = n} l) q i e = let same : n ≡ q = cc in omega arith
+-- a later number is 24
+pub early-number : {last : ℕ} {v : Verdict} → Early last v → (q i : ℕ) → v ≡ fails q i → last < q → q ≡ 24
+early-number passed q i e late = let z : _≡_ {A = ℕ} 0 1 = cc in absurd (omega arith)
+early-number (failed {q = n} l) q i e late = let same : n ≡ q = cc in absurd (omega arith)
+early-number no-total q i e late = cc
 
 later : {last more : ℕ} {v : Verdict} → last ≤ more → Early last v → Early more v
 later h passed = passed
 later h (failed {q = q} l) = failed {q = q} (omega arith)
+later h no-total = no-total
 
 early-then : {last : ℕ} {v w : Verdict} → Early last v → Early last w → Early last (v then w)
 early-then passed b = b
 early-then (failed l) b = failed l
+early-then no-total b = no-total
 
 early-ask : {last : ℕ} (q i : ℕ) (b : Bool) → q ≤ last → Early last (ask q i b)
 early-ask q i true l = passed
@@ -54,18 +59,23 @@ early-section place i size low high f =
 early-layout : (f : List ℕ) → Early 11 (layoutQuestions f)
 unfolding layoutQuestions endQuestion
 early-layout f =
-    early-then (early-section 0 0 4 settingCount settingCount f)
+    early-then (early-section 0 0 4 minSettings maxSettings f)
     (early-then (early-section 1 (statesAt f) 6 1 maxStates f)
     (early-then (early-section 2 (rowsAt f) 4 0 maxRows f)
     (early-then (early-section 3 (outcomesAt f) 4 0 maxOutcomes f)
     (early-ask 3 3 (eqb (fileEnd f) (length f)) (omega arith)))))
+
+early-total : (i : ℕ) (b : Bool) → Early 11 (ask 24 i b)
+early-total i true = passed
+early-total i false = no-total
 
 early-settings : (p : Problem) → Early 11 (settingQuestions p)
 unfolding settingQuestions
 early-settings p =
     early-then (early-ask 4 0 (ltb (p .start) (p .states)) (omega arith))
     (early-then (early-ask 4 1 (between 1 maxTolerance (p .tolerance)) (omega arith))
-    (early-ask 4 2 (between 1 maxPenalty (p .penalty)) (omega arith)))
+    (early-then (early-ask 4 2 (between 1 maxPenalty (p .penalty)) (omega arith))
+    (early-total 3 (oneOf (p .total) weightTotals))))
 
 early-items : (f : List ℕ) (p : Problem) → Early 11 (itemQuestions f p)
 unfolding itemQuestions stateQuestion startQuestion rowNumberQuestion rowQuestion outcomeNumberQuestion outcomeQuestion estimateQuestion
@@ -76,7 +86,7 @@ early-items f p =
     (early-then (early-each 8 (p .rows) (λ r. rowObeys (kindOf f r) (outcomeCountOf f r) (costNumberOf f r)) (omega arith))
     (early-then (early-ask 9 0 (eqb (sumTo (outcomeCountOf f) (p .rows)) (u16At f (outcomesAt f))) (omega arith))
     (early-then
-    (early-each 10 (p .rows) (λ r. outcomesObey (p .states) (p .outcomes r) && eqb (totalWeight (p .outcomes r)) weightTotal) (omega arith))
+    (early-each 10 (p .rows) (λ r. rowSound (p .states) (p .total) (p .outcomes r)) (omega arith))
     (early-ask 11 _ (leb (p .states) (undercutState p (p .estimate))) (omega arith)))))))
 
 -- questions 1 to 11 in order

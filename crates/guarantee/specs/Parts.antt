@@ -13,7 +13,6 @@ use lib.ListN.{getD, length, take}
 use lib.Seq.{getD-take}
 use borrow.Author.Tests.{ltb-true}
 use Rattle.model.specs.Bytes.{u16At}
-use Rattle.model.specs.Limits.{weightTotal}
 use Rattle.model.specs.Problem.{Outcome}
 use Rattle.model.specs.Questions.{between, outcomesObey}
 use Rattle.model.specs.Sections.{outcomesFrom}
@@ -25,24 +24,24 @@ use Rattle.guarantee.specs.Searches.{and-left, and-right}
 abbrev pub outcomeIn : List ℕ → ℕ → Outcome
 outcomeIn b i = record { successor = u16At b (4 * i); weight = u16At b (4 * i + 2) }
 
--- whether an outcome leads to one of n states with a weight in range
-abbrev pub outcomeObeys : ℕ → Outcome → Bool
-outcomeObeys n o = ltb (o .successor) n && between 1 weightTotal (o .weight)
+-- whether an outcome leads to one of n states with a weight of 1 to W
+abbrev pub outcomeObeys : ℕ → ℕ → Outcome → Bool
+outcomeObeys n W o = ltb (o .successor) n && between 1 W (o .weight)
 
 module _ (b : List ℕ) (n i : ℕ) (h : i < n) where
   pub outcomes-next : outcomesFrom b i (n - i) ≡ outcomeIn b i ∷ outcomesFrom b (i + 1) (n - (i + 1))
   unfolding outcomesFrom
   outcomes-next = rw (left-is n i h, add-one)
 
-  pub obey-fails : (states : ℕ) → outcomeObeys states (outcomeIn b i) ≡ false → outcomesObey states (outcomesFrom b i (n - i)) ≡ false
+  pub obey-fails : (states W : ℕ) → outcomeObeys states W (outcomeIn b i) ≡ false → outcomesObey states W (outcomesFrom b i (n - i)) ≡ false
   unfolding outcomesObey
-  obey-fails states t = rw (outcomes-next, t)
+  obey-fails states W t = rw (outcomes-next, t)
 
   pub obey-goes-on
-      : (states : ℕ) → outcomeObeys states (outcomeIn b i) ≡ true
-      → outcomesObey states (outcomesFrom b i (n - i)) ≡ outcomesObey states (outcomesFrom b (i + 1) (n - (i + 1)))
+      : (states W : ℕ) → outcomeObeys states W (outcomeIn b i) ≡ true
+      → outcomesObey states W (outcomesFrom b i (n - i)) ≡ outcomesObey states W (outcomesFrom b (i + 1) (n - (i + 1)))
   unfolding outcomesObey
-  obey-goes-on states t = rw (outcomes-next, t)
+  obey-goes-on states W t = rw (outcomes-next, t)
 
   pub weight-goes-on
       : totalWeight (outcomesFrom b i (n - i)) ≡ u16At b (4 * i + 2) + totalWeight (outcomesFrom b (i + 1) (n - (i + 1)))
@@ -76,15 +75,15 @@ outcomes-front b m i (suc k) h =
 
 -- outcomes that obey lead to states
 pub obey-successor
-    : (n : ℕ) (b : List ℕ) (i k j : ℕ) → outcomesObey n (outcomesFrom b i k) ≡ true → i ≤ j → j < i + k → u16At b (4 * j) < n
+    : (n W : ℕ) (b : List ℕ) (i k j : ℕ) → outcomesObey n W (outcomesFrom b i k) ≡ true → i ≤ j → j < i + k → u16At b (4 * j) < n
 unfolding outcomesFrom outcomesObey
-obey-successor n b i zero j h low high = absurd (omega arith)
-obey-successor n b i (suc k) j h low high =
-    step (eq-or-lt-of-le low) (obey-successor n b (suc i) k j (and-right (outcomeObeys n (outcomeIn b i)) _ h))
+obey-successor n W b i zero j h low high = absurd (omega arith)
+obey-successor n W b i (suc k) j h low high =
+    step (eq-or-lt-of-le low) (obey-successor n W b (suc i) k j (and-right (outcomeObeys n W (outcomeIn b i)) _ h))
   where
     step : (i ≡ j) ⊎ (i < j) → (suc i ≤ j → j < suc i + k → u16At b (4 * j) < n) → u16At b (4 * j) < n
     step (inl e) next =
-        rw (← e) (ltb-true _ _ (and-left _ _ (and-left (outcomeObeys n (outcomeIn b i)) (outcomesObey n (outcomesFrom b (suc i) k)) h)))
+        rw (← e) (ltb-true _ _ (and-left _ _ (and-left (outcomeObeys n W (outcomeIn b i)) (outcomesObey n W (outcomesFrom b (suc i) k)) h)))
     step (inr l) next = next l (omega arith)
 
 -- how many outcomes are read, and where the o-th of them leads

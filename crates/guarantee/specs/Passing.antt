@@ -1,7 +1,7 @@
 -- The bytes of a problem's data are a file that questions 1 to 11 let through.
 -- What each question asks is a fact of well-formed data, and the file says these data.
-use mathlib.Core.Path.{_≡_, refl, _∙_}
-use Prim.Native.Nat.{ℕ, _+_, _≤_, _<_}
+use mathlib.Core.Path.{_≡_, refl, _∙_, ap}
+use Prim.Native.Nat.{ℕ, _+_, _/_, _≤_, _<_}
 use native.Mathlib.Omega.{arith}
 use mathlib.Core.Bool.{Bool, true, false, _&&_}
 use mathlib.Core.List.{List, [], _∷_}
@@ -10,23 +10,23 @@ use lib.ListN.{length}
 use borrow.Author.Tests.{le-leb, lt-ltb, eq-eqb}
 use Rattle.model.specs.Bytes.{u16At}
 use Rattle.model.specs.Encoding.{goalByte, outcomesTo, encode}
-use Rattle.model.specs.Limits.{settingCount, maxStates, maxRows, maxOutcomes, maxTolerance, maxPenalty, maxSeconds}
-use Rattle.model.specs.Limits.{weightTotal}
+use Rattle.model.specs.Limits.{minSettings, maxSettings, maxStates, maxRows, maxOutcomes, maxTolerance, maxPenalty, maxSeconds}
 use Rattle.model.specs.Problem.{Problem, Outcome, giveUpCost}
 use Rattle.model.specs.Questions.{passes, sectionQuestions, endQuestion, layoutQuestions, settingQuestions, stateObeys}
 use Rattle.model.specs.Questions.{stateQuestion, startQuestion, rowNumberQuestion, costObeys, rowObeys, rowQuestion}
-use Rattle.model.specs.Questions.{outcomeNumberQuestion, outcomesObey, outcomeQuestion, undercutRow, undercutState}
+use Rattle.model.specs.Questions.{outcomeNumberQuestion, outcomesObey, rowSound, outcomeQuestion, undercutRow, undercutState}
 use Rattle.model.specs.Questions.{estimateQuestion, itemQuestions, fileQuestions}
 use Rattle.model.specs.Sections.{sectionEnd, statesAt, rowsAt, outcomesAt, fileEnd, goalByteOf, kindOf, outcomeCountOf}
 use Rattle.model.specs.Sections.{costNumberOf, problemOf}
-use Rattle.model.specs.Value.{rowValue, totalWeight}
+use Rattle.model.specs.Value.{rowTicks, rowValue, weightedSum}
 use Rattle.model.specs.Walk.{In, here, there}
 use Rattle.guarantee.specs.Chances.{weight-high, some-outcome}
-use Rattle.guarantee.specs.Encodings.{Encodable, Says, encode-length, encode-reads, settings-count, states-place}
-use Rattle.guarantee.specs.Encodings.{states-count, rows-place, rows-count, outcomes-place, outcomes-count}
+use Rattle.guarantee.specs.Encodings.{Encodable, Says, encode-length, encode-reads, setting-number-low, setting-number-high, settings-count}
+use Rattle.guarantee.specs.Encodings.{states-place, states-count, rows-place, rows-count, outcomes-place, outcomes-count}
 use Rattle.guarantee.specs.Encodings.{state-read, row-read, first-row-read, first-outcome-read}
 use Rattle.guarantee.specs.Searches.{and-both, yes-between, yes-ask, yes-ask-each}
 use Rattle.guarantee.specs.Undercuts.{none-undercut}
+use Rattle.guarantee.specs.Totals.{total-low}
 use Rattle.guarantee.specs.Values.{rowValue-same-states}
 use Rattle.guarantee.specs.Walks.{rows-within}
 use Rattle.guarantee.specs.WellFormed.{WellFormed}
@@ -53,15 +53,15 @@ unfolding rowObeys costObeys
 row-obeys count number some low high = and-both (le-leb 1 count some) (yes-between 1 maxSeconds number low high)
 
 outcomes-obey
-    : (n : ℕ) (os : List Outcome)
-    → ((o : Outcome) → In o os → (o .successor < n) × (1 ≤ o .weight) × (o .weight ≤ weightTotal))
-    → outcomesObey n os ≡ true
+    : (n W : ℕ) (os : List Outcome)
+    → ((o : Outcome) → In o os → (o .successor < n) × (1 ≤ o .weight) × (o .weight ≤ W))
+    → outcomesObey n W os ≡ true
 unfolding outcomesObey
-outcomes-obey n [] h = refl
-outcomes-obey n (o ∷ os) h =
+outcomes-obey n W [] h = refl
+outcomes-obey n W (o ∷ os) h =
     let one = h o here in
-    and-both (and-both (lt-ltb (o .successor) n (one .0)) (yes-between 1 weightTotal (o .weight) (one .1) (one .2)))
-    (outcomes-obey n os (λ o i. h o (there i)))
+    and-both (and-both (lt-ltb (o .successor) n (one .0)) (yes-between 1 W (o .weight) (one .1) (one .2)))
+    (outcomes-obey n W os (λ o i. h o (there i)))
 
 -- The questions of the file f of p's data, whose problem is q.
 module _ (p : Problem) (fits : Encodable p) where
@@ -89,6 +89,8 @@ module _ (p : Problem) (fits : Encodable p) where
   layout-passes =
       let size = encode-length p in
       let settings = settings-count p fits in
+      let low = setting-number-low p in
+      let high = setting-number-high p in
       let states-from = states-place p fits in
       let states = states-count p fits in
       let rows-from = rows-place p fits in
@@ -96,7 +98,7 @@ module _ (p : Problem) (fits : Encodable p) where
       let outcomes-from = outcomes-place p fits in
       let outcomes = outcomes-count p fits in
       rw (
-        section-passes 0 0 4 settingCount settingCount f (omega arith) (omega arith) (omega arith) (omega arith),
+        section-passes 0 0 4 minSettings maxSettings f (omega arith) (omega arith) (omega arith) (omega arith),
         section-passes 1 (statesAt f) 6 1 maxStates f (omega arith) (omega arith) (omega arith) (omega arith),
         section-passes 2 (rowsAt f) 4 0 maxRows f (omega arith) (omega arith) (omega arith) (omega arith),
         section-passes 3 (outcomesAt f) 4 0 maxOutcomes f (omega arith) (omega arith) (omega arith) (omega arith),
@@ -109,7 +111,8 @@ module _ (p : Problem) (fits : Encodable p) where
   settings-pass =
       rw (← says .start, ← says .states, lt-ltb (p .start) (p .states) (formed .start-state))
       (rw (← says .tolerance, yes-between 1 maxTolerance _ (formed .tolerance-low) (formed .tolerance-high))
-      (rw (← says .penalty, yes-between 1 maxPenalty _ (formed .penalty-low) (formed .penalty-high)) refl))
+      (rw (← says .penalty, yes-between 1 maxPenalty _ (formed .penalty-low) (formed .penalty-high))
+      (rw (← says .total, formed .total-known) refl)))
 
   states-pass : stateQuestion f q ≡ passes
   unfolding stateQuestion
@@ -138,7 +141,7 @@ module _ (p : Problem) (fits : Encodable p) where
       λ r h.
       let l = row-of r h in
       let read = row-read p fits r l in
-      let some = some-outcome (p .outcomes r) (omega (arith, formed .weights r l)) in
+      let some = some-outcome (p .outcomes r) (omega (arith, formed .weights r l, total-low formed)) in
       rw (read .0, read .1, read .2)
       (row-obeys (length (p .outcomes r)) (p .cost r) some (formed .cost-low r l) (formed .cost-high r l))
 
@@ -152,23 +155,24 @@ module _ (p : Problem) (fits : Encodable p) where
   unfolding outcomeQuestion
   outcomes-pass =
       yes-ask-each 10 (q .rows)
-      (λ r. outcomesObey (q .states) (q .outcomes r) && eqb (totalWeight (q .outcomes r)) weightTotal)
+      (λ r. rowSound (q .states) (q .total) (q .outcomes r))
       λ r h.
       let l = row-of r h in
-      rw (← says .states, ← says .outcomes r l, formed .weights r l)
+      rw (← says .states, ← says .total, ← says .outcomes r l, formed .weights r l)
       (and-both
-      (outcomes-obey (p .states) (p .outcomes r)
+      (outcomes-obey (p .states) (p .total) (p .outcomes r)
       (λ o i. (
         formed .successor-state r l o i,
         formed .weight-low r l o i,
         omega (arith, weight-high (p .outcomes r) o i, formed .weights r l),
       )))
-      refl)
+      (eq-eqb (p .total) (p .total) refl))
 
   row-value-read : (r : ℕ) → r < p .rows → rowValue p (p .estimate) r ≡ rowValue q (q .estimate) r
   unfolding rowValue
   row-value-read r l =
       rowValue-same-states p formed (p .estimate) (q .estimate) (says .estimates) r l
+      ∙ ap (λ W. rowTicks p r + weightedSum (p .outcomes r) (q .estimate) / W) (says .total)
       ∙ rw (says .costs r l, says .outcomes r l) refl
 
   estimates-pass : estimateQuestion q ≡ passes

@@ -13,7 +13,7 @@ use lib.ListN.{length, take}
 use lib.Seq.{getD-take, take-all, length-take-le}
 use borrow.Author.Tests.{le-leb, ne-eqb}
 use Rattle.model.specs.Bytes.{u16At}
-use Rattle.model.specs.Limits.{settingCount, maxStates, maxRows, maxOutcomes}
+use Rattle.model.specs.Limits.{minSettings, maxSettings, maxStates, maxRows, maxOutcomes}
 use Rattle.model.specs.Lines.{planText, stateLines, runStates}
 use Rattle.model.specs.Problem.{Problem}
 use Rattle.model.specs.Sections.{problemOf, sectionEnd, statesAt, rowsAt, outcomesAt, fileEnd}
@@ -27,9 +27,9 @@ use Rattle.guarantee.specs.WellFormed.{WellFormed, section-there, betwee
 use Rattle.guarantee.specs.Agreeing.{tables-same}
 use Rattle.guarantee.specs.TableFiles.{u16-front, entries16-front, entries32-front}
 
--- the longest file that question 2 lets through: four counts, three settings, and each section full
+-- the longest file that question 2 lets through: four counts, and each section full
 abbrev pub longestFile : ℕ
-longestFile = 2 + 4 * settingCount + (2 + 6 * maxStates) + (2 + 4 * maxRows) + (2 + 4 * maxOutcomes)
+longestFile = 2 + 4 * maxSettings + (2 + 6 * maxStates) + (2 + 4 * maxRows) + (2 + 4 * maxOutcomes)
 
 then-same : (a b b′ : Verdict) → (a ≡ passes → b ≡ b′) → (a then b) ≡ (a then b′)
 then-same passes b b′ h = h refl
@@ -68,9 +68,9 @@ module _ (N : ℕ) (f : List ℕ) (long : N ≤ length f) where
       let b = sectionEnd 6 f a in
       let c = sectionEnd 4 f b in
       let d = sectionEnd 4 f c in
-      rw (section-front 0 0 4 settingCount settingCount (omega arith), section-end 4 0 (omega arith))
-      (then-same (sectionQuestions 0 0 4 settingCount settingCount f) _ _ λ s₀.
-      let e₀ = section-there 0 0 4 settingCount settingCount f s₀ .count-high in
+      rw (section-front 0 0 4 minSettings maxSettings (omega arith), section-end 4 0 (omega arith))
+      (then-same (sectionQuestions 0 0 4 minSettings maxSettings f) _ _ λ s₀.
+      let e₀ = section-there 0 0 4 minSettings maxSettings f s₀ .count-high in
       rw (section-front 1 a 6 1 maxStates (omega arith), section-end 6 a (omega arith))
       (then-same (sectionQuestions 1 a 6 1 maxStates f) _ _ λ s₁.
       let e₁ = section-there 1 a 6 1 maxStates f s₁ .count-high in
@@ -86,7 +86,7 @@ module _ (N : ℕ) (f : List ℕ) (long : N ≤ length f) where
 longest-passes : (f : List ℕ) → layoutQuestions f ≡ passes → length f ≤ longestFile
 longest-passes f h =
     let s = sectioned f h in
-    omega (arith, s .settings, s .states-at, s .rows-at, s .outcomes-at, s .end-at, s .states-high, s .rows-high, s .outcomes-high)
+    omega (arith, s .settings-high, s .states-at, s .rows-at, s .outcomes-at, s .end-at, s .states-high, s .rows-high, s .outcomes-high)
 
 -- the front of a file: it is the file, or both are refused alike before question 4
 data Front (N : ℕ) (f : List ℕ) : Type 0 where

@@ -29,6 +29,7 @@ same-sym p q rows h =
       start = sym (h .start);
       tolerance = sym (h .tolerance);
       penalty = sym (h .penalty);
+      total = sym (h .total);
       states = sym (h .states);
       estimates = λ s l. sym (h .estimates s (omega (arith, h .states)));
       goals = λ s l. sym (h .goals s (omega (arith, h .states)));
@@ -43,6 +44,7 @@ same-trans p q o rows h k =
       start = h .start ∙ k .start;
       tolerance = h .tolerance ∙ k .tolerance;
       penalty = h .penalty ∙ k .penalty;
+      total = h .total ∙ k .total;
       states = h .states ∙ k .states;
       estimates = λ s l. h .estimates s l ∙ k .estimates s (omega (arith, h .states));
       goals = λ s l. h .goals s l ∙ k .goals s (omega (arith, h .states));
@@ -86,11 +88,11 @@ module _ (p q : Problem) (formed : WellFormed p) (formed′ : WellFormed q) (sam
 
   pub same-values : (v : ℕ → ℕ) (r : ℕ) → r < p .rows → rowValue p v r ≡ rowValue q v r
   unfolding rowValue
-  same-values v r l = rw (same .costs r l, same-sums v r l) refl
+  same-values v r l = rw (same .costs r l, same-sums v r l, same .total) refl
 
   pub same-remainders : (v : ℕ → ℕ) (r : ℕ) → r < p .rows → rowRemainder p v r ≡ rowRemainder q v r
   unfolding rowRemainder
-  same-remainders v r l = rw (same-sums v r l) refl
+  same-remainders v r l = rw (same-sums v r l, same .total) refl
 
   -- What the walks reach.
   module _ (picks : ℕ → ℕ) where

@@ -210,7 +210,7 @@ module _ (f : List ℕ) (budget : ℕ) (t : Tables) where
 
   -- number 14 never comes
   pub never-fourteen : (r : ℕ) → solution f budget t .answer ≡ refused 14 r → ⊥
-  never-fourteen r h = omega (arith, early-number (early-questions f budget t) 14 r (refused-by 14 r h .failed))
+  never-fourteen r h = omega (arith, early-number (early-questions f budget t) 14 r (refused-by 14 r h .failed) (omega arith))
 
   -- whatever the budget: the audit accepts what a solved run left, and gives the run's C
   pub answer-accepted

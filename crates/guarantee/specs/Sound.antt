@@ -11,6 +11,7 @@ use Rattle.model.specs.Limits.{giveUp, noPick, valueBound}
 use Rattle.model.specs.Problem.{Problem, giveUpCost, endRow, ownRow}
 use Rattle.model.specs.Value.{rowValue, byState}
 use Rattle.model.specs.Rounds.{Found, Machine, scanStart, scanOf, raiseOn, rises, settle, backup, machineStart, fillTo, bellman}
+use Rattle.guarantee.specs.Totals.{total-low}
 use Rattle.guarantee.specs.WellFormed.{WellFormed}
 use Rattle.guarantee.specs.Values.{rowValue-rises-all, rowValue-same-states, rowValue-fits}
 use Rattle.guarantee.specs.Undercuts.{NoUndercut}
@@ -152,7 +153,7 @@ module _ (p : Problem) (formed : WellFormed p) where
 
     -- so row values only rise
     pub row-values-rise : (e r : ℕ) → rowValue p (byState (m .values)) r ≤ rowValue p (byState (backup p e s m .values)) r
-    row-values-rise e = rowValue-rises-all p (byState (m .values)) (byState (backup p e s m .values)) (backup-rises e)
+    row-values-rise e = rowValue-rises-all p (total-low formed) (byState (m .values)) (byState (backup p e s m .values)) (backup-rises e)
 
     pub pick-allowed : Allowed p s (scanOf p s m .pick)
     pick-allowed = go scan-landed

@@ -18,7 +18,7 @@ pub successors-states : (p : Problem) → outcomeQuestion p ≡ passes → (r : 
     → o .successor < p .states
 unfolding outcomeQuestion
 successors-states p h r l o i =
-    ltb-true _ _ (and-left _ _ (outcome-obeys (p .states) i (and-left _ _ (ask-each-yes 10 (p .rows) _ h r l))))
+    ltb-true _ _ (and-left _ _ (outcome-obeys (p .states) (p .total) i (and-left _ _ (ask-each-yes 10 (p .rows) _ h r l))))
 
 module _ (p : Problem) (v w : ℕ → ℕ) (asked : outcomeQuestion p ≡ passes) (within : (s : ℕ) → s < p .states → endRow p s ≤ p .rows)
     (agree : (s : ℕ) → s < p .states → v s ≡ w s) where

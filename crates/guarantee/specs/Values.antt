@@ -1,5 +1,5 @@
 -- Laws of the row value: how far rounding down takes it, that it rises with the table, its bound, and that it looks at successors only.
--- Averages are treated over any weight total above 0 and any list of outcomes; the model's total is put in once, in `rowValue-average`.
+-- Averages are treated over any weight total above 0 and any list of outcomes; the problem's total is put in once, in `rowValue-average`.
 use mathlib.Core.Path.{_≡_, refl}
 use Prim.Native.Nat.{ℕ, _+_, _-_, _*_, _/_, _%_, _≤_, _<_}
 use mathlib.Core.List.{List, [], _∷_}
@@ -7,7 +7,7 @@ use native.Mathlib.Nat.{mul-le-mul-left, mul-div-le, lt-mul-div-succ, le-div-iff
 use native.Mathlib.Nat.{div-add-mod, mod-lt}
 use native.Mathlib.Omega.{arith}
 use borrow.Author.Tests.{ne-eqb}
-use Rattle.model.specs.Limits.{weightTotal, valueBound, giveUp}
+use Rattle.model.specs.Limits.{valueBound, giveUp}
 use Rattle.model.specs.Problem.{Problem, Outcome, giveUpCost}
 use Rattle.model.specs.Value.{weightedSum, totalWeight, rowTicks, rowValue, rowRemainder, pickRemainder}
 use Rattle.model.specs.Walk.{In, here, there}
@@ -46,12 +46,12 @@ weightedSum-high (o ∷ os) v G high =
 pub quotient-rises : (W a b : ℕ) → 0 < W → a ≤ b → a / W ≤ b / W
 quotient-rises W a b pos h = le-div-iff-mul-le pos .1 (le-trans (div-mul-le-self a W) h)
 
-module _ (W : ℕ) (pos : 0 < W) (ticks : ℕ) (os : List Outcome) where
+module _ (W ticks : ℕ) (os : List Outcome) where
   pub average-low : (v : ℕ → ℕ) → W * average W ticks os v ≤ W * ticks + weightedSum os v
   average-low v = omega (arith, mul-div-le (weightedSum os v) W)
 
-  pub average-high : (v : ℕ → ℕ) → W * ticks + weightedSum os v < W * (average W ticks os v + 1)
-  average-high v = omega (arith, lt-mul-div-succ (weightedSum os v) pos)
+  pub average-high : 0 < W → (v : ℕ → ℕ) → W * ticks + weightedSum os v < W * (average W ticks os v + 1)
+  average-high pos v = omega (arith, lt-mul-div-succ (weightedSum os v) pos)
 
   -- what the average takes of the sum, W times, and what the division leaves are together the sum
   pub average-exact : (v : ℕ → ℕ) → W * (average W ticks os v - ticks) + weightedSum os v % W ≡ weightedSum os v
@@ -59,8 +59,8 @@ module _ (W : ℕ) (pos : 0 < W) (ticks : ℕ) (os : List Outcome) where
       let mean : average W ticks os v - ticks ≡ weightedSum os v / W = omega arith in
       rw mean (div-add-mod (weightedSum os v) W)
 
-  pub average-rises : (v w : ℕ → ℕ) → BelowAt os v w → average W ticks os v ≤ average W ticks os w
-  average-rises v w below = omega (arith, quotient-rises W _ _ pos (weightedSum-rises os v w below))
+  pub average-rises : 0 < W → (v w : ℕ → ℕ) → BelowAt os v w → average W ticks os v ≤ average W ticks os w
+  average-rises pos v w below = omega (arith, quotient-rises W _ _ pos (weightedSum-rises os v w below))
 
   pub average-same : (v w : ℕ → ℕ) → SameAt os v w → average W ticks os v ≡ average W ticks os w
   average-same v w same = rw (weightedSum-same os v w same) refl
@@ -70,45 +70,43 @@ module _ (W : ℕ) (pos : 0 < W) (ticks : ℕ) (os : List Outcome) where
   average-bound v G total high =
       omega (arith, div-le-of-le-mul W {n = G} (rw total at (weightedSum-high os v G high)))
 
--- the model's row value is the average over 1,000
-pub rowValue-average : (p : Problem) (v : ℕ → ℕ) (r : ℕ) → rowValue p v r ≡ average weightTotal (rowTicks p r) (p .outcomes r) v
+-- the model's row value is the average over the problem's total
+pub rowValue-average : (p : Problem) (v : ℕ → ℕ) (r : ℕ) → rowValue p v r ≡ average (p .total) (rowTicks p r) (p .outcomes r) v
 unfolding rowValue
 rowValue-average p v r = refl
 
-pub total-above-zero : 0 < weightTotal
-total-above-zero = omega arith
-
 module _ (p : Problem) (r : ℕ) where
-  pub rowValue-low : (v : ℕ → ℕ) → weightTotal * rowValue p v r ≤ weightTotal * rowTicks p r + weightedSum (p .outcomes r) v
-  rowValue-low v = rw rowValue-average (average-low weightTotal total-above-zero (rowTicks p r) (p .outcomes r) v)
+  pub rowValue-low : (v : ℕ → ℕ) → p .total * rowValue p v r ≤ p .total * rowTicks p r + weightedSum (p .outcomes r) v
+  rowValue-low v = rw rowValue-average (average-low (p .total) (rowTicks p r) (p .outcomes r) v)
 
-  pub rowValue-high : (v : ℕ → ℕ) → weightTotal * rowTicks p r + weightedSum (p .outcomes r) v < weightTotal * (rowValue p v r + 1)
-  rowValue-high v = rw rowValue-average (average-high weightTotal total-above-zero (rowTicks p r) (p .outcomes r) v)
+  pub rowValue-high
+      : 1 ≤ p .total → (v : ℕ → ℕ) → p .total * rowTicks p r + weightedSum (p .outcomes r) v < p .total * (rowValue p v r + 1)
+  rowValue-high pos v = rw rowValue-average (average-high (p .total) (rowTicks p r) (p .outcomes r) pos v)
 
   -- E3: value and remainder together are the exact sum, and the remainder is less than the total
   pub rowValue-exact
-      : (v : ℕ → ℕ) → weightTotal * (rowValue p v r - rowTicks p r) + rowRemainder p v r ≡ weightedSum (p .outcomes r) v
+      : (v : ℕ → ℕ) → p .total * (rowValue p v r - rowTicks p r) + rowRemainder p v r ≡ weightedSum (p .outcomes r) v
   unfolding rowRemainder
-  rowValue-exact v = rw rowValue-average (average-exact weightTotal total-above-zero (rowTicks p r) (p .outcomes r) v)
+  rowValue-exact v = rw rowValue-average (average-exact (p .total) (rowTicks p r) (p .outcomes r) v)
 
-  pub rowRemainder-low : (v : ℕ → ℕ) → rowRemainder p v r < weightTotal
+  pub rowRemainder-low : 1 ≤ p .total → (v : ℕ → ℕ) → rowRemainder p v r < p .total
   unfolding rowRemainder
-  rowRemainder-low v = mod-lt (weightedSum (p .outcomes r) v) total-above-zero
+  rowRemainder-low pos v = mod-lt (weightedSum (p .outcomes r) v) pos
 
-  pub rowValue-rises : (v w : ℕ → ℕ) → BelowAt (p .outcomes r) v w → rowValue p v r ≤ rowValue p w r
-  rowValue-rises v w below =
+  pub rowValue-rises : 1 ≤ p .total → (v w : ℕ → ℕ) → BelowAt (p .outcomes r) v w → rowValue p v r ≤ rowValue p w r
+  rowValue-rises pos v w below =
       rw (rowValue-average p v r, rowValue-average p w r)
-      (average-rises weightTotal total-above-zero (rowTicks p r) (p .outcomes r) v w below)
+      (average-rises (p .total) (rowTicks p r) (p .outcomes r) pos v w below)
 
   pub rowValue-same : (v w : ℕ → ℕ) → SameAt (p .outcomes r) v w → rowValue p v r ≡ rowValue p w r
   rowValue-same v w same =
       rw (rowValue-average p v r, rowValue-average p w r)
-      (average-same weightTotal total-above-zero (rowTicks p r) (p .outcomes r) v w same)
+      (average-same (p .total) (rowTicks p r) (p .outcomes r) v w same)
 
-  pub rowValue-bound : (v : ℕ → ℕ) (G : ℕ) → totalWeight (p .outcomes r) ≡ weightTotal
+  pub rowValue-bound : (v : ℕ → ℕ) (G : ℕ) → totalWeight (p .outcomes r) ≡ p .total
       → ((o : Outcome) → In o (p .outcomes r) → v (o .successor) ≤ G) → rowValue p v r ≤ rowTicks p r + G
   rowValue-bound v G total high =
-      rw rowValue-average (average-bound weightTotal total-above-zero (rowTicks p r) (p .outcomes r) v G total high)
+      rw rowValue-average (average-bound (p .total) (rowTicks p r) (p .outcomes r) v G total high)
 
 -- the remainder of a pick is that of its row, and 0 for giving up
 module _ (p : Problem) (v : ℕ → ℕ) where
@@ -121,8 +119,9 @@ module _ (p : Problem) (v : ℕ → ℕ) where
   pickRemainder-row r other = rw (ne-eqb r giveUp other) refl
 
 -- on whole tables
-pub rowValue-rises-all : (p : Problem) (v w : ℕ → ℕ) → ((s : ℕ) → v s ≤ w s) → (r : ℕ) → rowValue p v r ≤ rowValue p w r
-rowValue-rises-all p v w below r = rowValue-rises p r v w (λ o i. below (o .successor))
+pub rowValue-rises-all
+    : (p : Problem) → 1 ≤ p .total → (v w : ℕ → ℕ) → ((s : ℕ) → v s ≤ w s) → (r : ℕ) → rowValue p v r ≤ rowValue p w r
+rowValue-rises-all p pos v w below r = rowValue-rises p r pos v w (λ o i. below (o .successor))
 
 -- on the states of a problem that questions 1 to 11 let through
 module _ (p : Problem) (formed : WellFormed p) where

@@ -9,16 +9,16 @@ use lib.Dec.{leb, ltb, eqb}
 use lib.ListN.{length}
 use borrow.Author.Tests.{leb-true, ltb-true, eqb-true, ne-eqb, not-true}
 use Rattle.model.specs.Bytes.{u16At}
-use Rattle.model.specs.Limits.{settingCount, maxStates, maxRows, maxOutcomes, maxTolerance, maxPenalty, maxSeconds, minRate, maxRate}
-use Rattle.model.specs.Limits.{fileStick, weightTotal}
+use Rattle.model.specs.Limits.{minSettings, maxSettings, weightTotals, maxStates, maxRows, maxOutcomes, maxTolerance, maxPenalty, maxSeconds}
+use Rattle.model.specs.Limits.{minRate, maxRate, fileStick}
 use Rattle.model.specs.Problem.{Problem, Outcome, giveUpCost, endRow}
-use Rattle.model.specs.Search.{sumTo}
+use Rattle.model.specs.Search.{sumTo, oneOf}
 use Rattle.model.specs.Value.{rowValue, totalWeight}
 use Rattle.model.specs.Sections.{sectionEnd, statesAt, rowsAt, outcomesAt, fileEnd, stateAt, rowCountOf, goalByteOf, firstRowOf, rowAt}
 use Rattle.model.specs.Sections.{kindOf, outcomeCountOf, costNumberOf, rateSeconds, secondsOn, firstOutcomeOf, outcomeAt, problemOf}
 use Rattle.model.specs.Questions.{passes, _then_, ask, between, sectionQuestions, endQuestion, layoutQuestions, settingQuestions}
 use Rattle.model.specs.Questions.{stateObeys, stateQuestion, startQuestion, rowNumberQuestion, costObeys, rowObeys, rowQuestion}
-use Rattle.model.specs.Questions.{outcomeNumberQuestion, outcomesObey, outcomeQuestion, estimateQuestion, itemQuestions, fileQuestions}
+use Rattle.model.specs.Questions.{outcomeNumberQuestion, outcomesObey, rowSound, outcomeQuestion, estimateQuestion, itemQuestions, fileQuestions}
 use Rattle.model.specs.Walk.{In, here, there}
 use Rattle.guarantee.specs.Rates.{seconds-low, seconds-high}
 use Rattle.guarantee.specs.Searches.{and-left, and-right, or-skip, then-first, then-next, ask-yes, ask-each-yes, sum-monotone}
@@ -34,6 +34,7 @@ pub record WellFormed (p : Problem) : Type 0 where
   pub tolerance-high : p .tolerance ≤ maxTolerance
   pub penalty-low : 1 ≤ p .penalty
   pub penalty-high : p .penalty ≤ maxPenalty
+  pub total-known : oneOf (p .total) weightTotals ≡ true
   pub states-high : p .states ≤ maxStates
   pub rows-high : p .rows ≤ maxRows
   pub rows-start : p .firstRow 0 ≡ 0
@@ -46,7 +47,7 @@ pub record WellFormed (p : Problem) : Type 0 where
   pub cost-high : (r : ℕ) → r < p .rows → p .cost r ≤ maxSeconds
   pub successor-state : (r : ℕ) → r < p .rows → (o : Outcome) → In o (p .outcomes r) → o .successor < p .states
   pub weight-low : (r : ℕ) → r < p .rows → (o : Outcome) → In o (p .outcomes r) → 1 ≤ o .weight
-  pub weights : (r : ℕ) → r < p .rows → totalWeight (p .outcomes r) ≡ weightTotal
+  pub weights : (r : ℕ) → r < p .rows → totalWeight (p .outcomes r) ≡ p .total
   pub estimate-under : (s r : ℕ) → s < p .states → p .firstRow s ≤ r → r < endRow p s → p .estimate s ≤ rowValue p (p .estimate) r
 
 -- a section's count bytes and items are there, and its count is in range
@@ -58,8 +59,9 @@ pub record SectionThere (size low high : ℕ) (f : List ℕ) (i : ℕ) : Type 0 
 
 -- what questions 1 to 3 give: the four sections and the file's end
 pub record Sectioned (f : List ℕ) : Type 0 where
-  pub settings : u16At f 0 ≡ settingCount
-  pub states-at : statesAt f ≡ 14
+  pub settings-low : minSettings ≤ u16At f 0
+  pub settings-high : u16At f 0 ≤ maxSettings
+  pub states-at : statesAt f ≡ 2 + 4 * u16At f 0
   pub rows-at : rowsAt f ≡ stateAt f (u16At f (statesAt f))
   pub outcomes-at : outcomesAt f ≡ rowAt f (u16At f (rowsAt f))
   pub end-at : outcomesAt f + 2 + 4 * u16At f (outcomesAt f) ≡ length f
@@ -117,7 +119,7 @@ section-there place i size low high f h =
 pub sectioned : (f : List ℕ) → layoutQuestions f ≡ passes → Sectioned f
 unfolding layoutQuestions endQuestion statesAt rowsAt outcomesAt fileEnd
 sectioned f h =
-    let q₀ = sectionQuestions 0 0 4 settingCount settingCount f in
+    let q₀ = sectionQuestions 0 0 4 minSettings maxSettings f in
     let q₁ = sectionQuestions 1 (statesAt f) 6 1 maxStates f in
     let q₂ = sectionQuestions 2 (rowsAt f) 4 0 maxRows f in
     let q₃ = sectionQuestions 3 (outcomesAt f) 4 0 maxOutcomes f in
@@ -125,13 +127,14 @@ sectioned f h =
     let h₁ = then-next q₀ (q₁ then q₂ then q₃ then q₄) h in
     let h₂ = then-next q₁ (q₂ then q₃ then q₄) h₁ in
     let h₃ = then-next q₂ (q₃ then q₄) h₂ in
-    let settings = section-there 0 0 4 settingCount settingCount f (then-first q₀ (q₁ then q₂ then q₃ then q₄) h) in
+    let settings = section-there 0 0 4 minSettings maxSettings f (then-first q₀ (q₁ then q₂ then q₃ then q₄) h) in
     let states = section-there 1 (statesAt f) 6 1 maxStates f (then-first q₁ (q₂ then q₃ then q₄) h₁) in
     let rows = section-there 2 (rowsAt f) 4 0 maxRows f (then-first q₂ (q₃ then q₄) h₂) in
     let outcomes = section-there 3 (outcomesAt f) 4 0 maxOutcomes f (then-first q₃ q₄ h₃) in
     let end : fileEnd f ≡ length f = eqb-true _ _ (ask-yes 3 3 (eqb (fileEnd f) (length f)) (then-next q₃ q₄ h₃)) in
     record {
-      settings = omega arith;
+      settings-low = omega arith;
+      settings-high = omega arith;
       states-at = omega arith;
       rows-at = refl;
       outcomes-at = refl;
@@ -260,20 +263,29 @@ row-cost kind count number h = and-right (leb 1 count) (costObeys (eqb kind 0) n
 
 -- question 10: successors are states, weights are at least 1
 
-pub outcome-obeys : (n : ℕ) {o : Outcome} {os : List Outcome} → In o os → outcomesObey n os ≡ true → outcomeObeys n o ≡ true
+pub outcome-obeys : (n W : ℕ) {o : Outcome} {os : List Outcome} → In o os → outcomesObey n W os ≡ true → outcomeObeys n W o ≡ true
 unfolding outcomesObey
-outcome-obeys n (here {a = a} {l = l}) h = and-left (outcomeObeys n a) (outcomesObey n l) h
-outcome-obeys n (there {b = b} {l = l} i) h = outcome-obeys n i (and-right (outcomeObeys n b) (outcomesObey n l) h)
+outcome-obeys n W (here {a = a} {l = l}) h = and-left (outcomeObeys n W a) (outcomesObey n W l) h
+outcome-obeys n W (there {b = b} {l = l} i) h = outcome-obeys n W i (and-right (outcomeObeys n W b) (outcomesObey n W l) h)
+
+-- questions 4 and 24: what they ask of each setting
+pub settings-yes : (p : Problem) → settingQuestions p ≡ passes
+    → (ltb (p .start) (p .states) ≡ true)
+    × (between 1 maxTolerance (p .tolerance) ≡ true)
+    × (between 1 maxPenalty (p .penalty) ≡ true)
+    × (oneOf (p .total) weightTotals ≡ true)
+unfolding settingQuestions
+settings-yes p h =
+    let first = ask 4 0 (ltb (p .start) (p .states)) in
+    let rest =
+    ask 4 1 (between 1 maxTolerance (p .tolerance))
+    then ask 4 2 (between 1 maxPenalty (p .penalty))
+    then ask 24 3 (oneOf (p .total) weightTotals) in
+    let later = ask-thrice 4 1 4 2 24 3 _ _ _ (then-next first rest h) in
+    (ask-yes 4 0 _ (then-first first rest h), later .0, later .1, later .2)
 
 -- the problem of a file whose questions 1 to 11 say yes
 module _ (f : List ℕ) (h : fileQuestions f ≡ passes) where
-  settings-yes
-      : (ltb (problemOf f .start) (problemOf f .states) ≡ true)
-      × (between 1 maxTolerance (problemOf f .tolerance) ≡ true)
-      × (between 1 maxPenalty (problemOf f .penalty) ≡ true)
-  unfolding settingQuestions
-  settings-yes = ask-thrice 4 0 4 1 4 2 _ _ _ (asked f h .settings)
-
   state-yes : (s : ℕ) → s < problemOf f .states
       → stateObeys (giveUpCost (problemOf f)) (problemOf f .estimate s) (problemOf f .rowCount s) (goalByteOf f s) ≡ true
   unfolding stateQuestion
@@ -288,13 +300,13 @@ module _ (f : List ℕ) (h : fileQuestions f ≡ passes) where
   row-yes = ask-each-yes 8 (problemOf f .rows) _ (asked f h .rows)
 
   outcomes-yes : (r : ℕ) → r < problemOf f .rows
-      → (outcomesObey (problemOf f .states) (problemOf f .outcomes r) && eqb (totalWeight (problemOf f .outcomes r)) weightTotal) ≡ true
+      → rowSound (problemOf f .states) (problemOf f .total) (problemOf f .outcomes r) ≡ true
   unfolding outcomeQuestion
   outcomes-yes = ask-each-yes 10 (problemOf f .rows) _ (asked f h .outcomes)
 
   outcome-yes : (r : ℕ) → r < problemOf f .rows → (o : Outcome) → In o (problemOf f .outcomes r)
-      → outcomeObeys (problemOf f .states) o ≡ true
-  outcome-yes r l o i = outcome-obeys (problemOf f .states) i (and-left _ _ (outcomes-yes r l))
+      → outcomeObeys (problemOf f .states) (problemOf f .total) o ≡ true
+  outcome-yes r l o i = outcome-obeys (problemOf f .states) (problemOf f .total) i (and-left _ _ (outcomes-yes r l))
 
   cost-range : (r : ℕ) → r < problemOf f .rows → (1 ≤ problemOf f .cost r) × (problemOf f .cost r ≤ maxSeconds)
   unfolding problemOf
@@ -306,7 +318,7 @@ pub well-formed : (f : List ℕ) → fileQuestions f ≡ passes → WellFormed (
 unfolding problemOf sumTo estimateQuestion
 well-formed f h =
     let p = problemOf f in
-    let set = settings-yes f h in
+    let set = settings-yes p (asked f h .settings) in
     let place = laid f h in
     record {
       start-state = ltb-true _ _ (set .0);
@@ -315,6 +327,7 @@ well-formed f h =
       tolerance-high = between-high 1 maxTolerance (p .tolerance) (set .1);
       penalty-low = between-low 1 maxPenalty (p .penalty) (set .2);
       penalty-high = between-high 1 maxPenalty (p .penalty) (set .2);
+      total-known = set .3;
       states-high = place .sections .states-high;
       rows-high = place .sections .rows-high;
       rows-start = refl;
@@ -327,7 +340,7 @@ well-formed f h =
       cost-high = λ r l. cost-range f h r l .1;
       successor-state = λ r l o i. ltb-true _ _ (and-left _ _ (outcome-yes f h r l o i));
       weight-low =
-          λ r l o i. between-low 1 weightTotal (o .weight) (and-right (ltb (o .successor) (p .states)) _ (outcome-yes f h r l o i));
-      weights = λ r l. eqb-true _ _ (and-right (outcomesObey (p .states) (p .outcomes r)) _ (outcomes-yes f h r l));
+          λ r l o i. between-low 1 (p .total) (o .weight) (and-right (ltb (o .successor) (p .states)) _ (outcome-yes f h r l o i));
+      weights = λ r l. eqb-true _ _ (and-right (outcomesObey (p .states) (p .total) (p .outcomes r)) _ (outcomes-yes f h r l));
       estimate-under = undercut-none p (p .estimate) (ask-yes 11 _ _ (asked f h .estimates));
     }

@@ -17,12 +17,12 @@ pub record Holds (before after : List ℕ) (n : ℕ) (text : List ℕ) : Type 0 
   pub rest : drop n after ≡ drop n before
 
 -- room for the longest first line of `plan` and line of `audit`, and for the longest line of a state, whose number has at most 4 digits
--- and whose remainder at most 3
+-- and whose remainder at most 4
 abbrev pub lineMost : ℕ
 lineMost = 73
 
 abbrev pub stateMost : ℕ
-stateMost = 26
+stateMost = 27
 
 -- room for the text of every plan
 abbrev pub planRoom : ℕ

@@ -5,9 +5,9 @@ use Prim.Native.Nat.{ℕ, _+_}
 use mathlib.Core.Bool.{false}
 use mathlib.Core.List.{List, [], _∷_, _++_}
 use lib.IntN.{pos, negsuc}
-use lib.ListN.{set, replicate}
+use lib.ListN.{set, replicate, take}
 use Rattle.model.specs.Bytes.{u16At, u32At, numberBytes}
-use Rattle.model.specs.Limits.{planRounds}
+use Rattle.model.specs.Limits.{thousandths, planRounds}
 use Rattle.model.specs.Problem.{Problem, Outcome}
 use Rattle.model.specs.Search.{first, sumTo}
 use Rattle.model.specs.Value.{byState, weightedSum, totalWeight, rowValue, rowRemainder, pickRemainder}
@@ -29,7 +29,7 @@ use Rattle.model.specs.Following.{moved, report, reports, acceptedOf}
 use Rattle.model.specs.declared.Follower.{Follower}
 use Rattle.model.specs.Lines.{codes, planText, answerLine, stateLines, stateLine, listed, runStates}
 use Rattle.model.specs.Lines.{decimal, decimalFrom, auditLine}
-use Rattle.model.specs.Encoding.{partsTo, settingBytes, stateBytes, rowBytes, outcomeBytes, encode}
+use Rattle.model.specs.Encoding.{partsTo, settingNumber, settingBytes, stateBytes, rowBytes, outcomeBytes, encode}
 use Rattle.model.specs.SetForm.{weightTo, gathered, inSetForm, setForm, written, refused as form-refused, exchangeQuestions, exchange}
 use Rattle.model.specs.Sheets.{rateLine, rateLines}
 use Rattle.model.specs.TableFiles.{bytes32, entries16, tableBytes, listTo}
@@ -109,6 +109,14 @@ rounding =
     settingsP
     (2 ∷ 0 ∷ state 1 (goal (1 ∷ 0 ∷ 0 ∷ 2 ∷ 1 ∷ 0 ∷ 2 ∷ 0 ∷ 0 ∷ 0 ∷ 77 ∷ 1 ∷ 1 ∷ 0 ∷ 155 ∷ 2 ∷ [])))
 
+-- E7: the same file with a fourth setting, the weight total, and other weights: back to state 0 and to the goal
+abbrev pub clogs : ℕ → ℕ → ℕ → List ℕ
+clogs total back on =
+    4 ∷ 0 ∷ 0 ∷ 0 ∷ 0 ∷ 0 ∷ 1 ∷ 0 ∷ 0 ∷ 0 ∷ 136 ∷ 19 ∷ 0 ∷ 0
+    ∷ (numberBytes 4 total
+    ++ (2 ∷ 0 ∷ state 1 (goal
+    (1 ∷ 0 ∷ 0 ∷ 2 ∷ 1 ∷ 0 ∷ 2 ∷ 0 ∷ 0 ∷ 0 ∷ (numberBytes 2 back ++ (1 ∷ 0 ∷ numberBytes 2 on))))))
+
 -- P sent by a partner: row 0's outcomes in another order, its outcome to 1 in two parts of 400 and 500; row 1 by its seconds, 600; row 2's
 -- outcome in two parts of 1 and 999
 abbrev pub partnerP : List ℕ
@@ -159,13 +167,14 @@ textP = codes "solved 3 5 100000\n0 370000 0 0\n1 300000 2 0\n"
 abbrev pub two : ℕ → ℕ → List Outcome
 two a b = record { successor = 0; weight = a } ∷ record { successor = 1; weight = b } ∷ []
 
--- two states that are no goals, and a row that has these outcomes and costs nothing
+-- two states that are no goals, and a row that has these outcomes, of 1,000 in all, and costs nothing
 abbrev pub rowWith : List Outcome → Problem
 rowWith os =
     record {
       start = 0;
       tolerance = 1;
       penalty = 1;
+      total = thousandths;
       states = 2;
       rows = 1;
       goal = λ s. false;
@@ -292,11 +301,36 @@ forms =
     ∷ (exchange (rateP 9 0) [] ≡ record { answer = form-refused 8 1; left = [] })
     ∷ []
 
+-- and those of E7: of each total the value of a row with its remainder, 33 × 1,492 being 49,236, 1,365 × 1,499 being 2,046,135, and
+-- 3,333 × 1,499 being 4,996,167; count 4 with 1,000 is what count 3 is. 24 for 0, 999 and 65,536; 4 is asked before it, and 2 and 1 of the
+-- counts and of a file that ends within the fourth setting. Weights go up to W and add to it, whatever it is
+abbrev pub totals : List (Type 0)
+totals =
+    (printed (clogs 100 33 67) 2 ≡ codes "solved 9 9 1000\n0 1492 0 36\n")
+    ∷ (printed (clogs 1000 333 667) 2 ≡ codes "solved 8 8 1000\n0 1498 0 834\n")
+    ∷ (printed (clogs 4096 1365 2731) 2 ≡ codes "solved 9 9 1000\n0 1499 0 2231\n")
+    ∷ (printed (clogs 10000 3333 6667) 2 ≡ codes "solved 9 9 1000\n0 1499 0 6167\n")
+    ∷ (setForm (clogs 1000 333 667) ≡ rounding)
+    ∷ (setForm rounding ≡ rounding)
+    ∷ (setForm (clogs 4096 1365 2731) ≡ clogs 4096 1365 2731)
+    ∷ (fileQuestions (clogs 0 333 667) ≡ fails 24 3)
+    ∷ (fileQuestions (clogs 999 333 666) ≡ fails 24 3)
+    ∷ (fileQuestions (clogs 65536 333 667) ≡ fails 24 3)
+    ∷ (fileQuestions (set (clogs 0 333 667) 6 0) ≡ fails 4 1)
+    ∷ (fileQuestions (set (set (clogs 0 333 667) 10 0) 11 0) ≡ fails 4 2)
+    ∷ (fileQuestions (set (clogs 1000 333 667) 0 2) ≡ fails 2 0)
+    ∷ (fileQuestions (set (clogs 1000 333 667) 0 5) ≡ fails 2 0)
+    ∷ (fileQuestions (take 17 (clogs 1000 333 667)) ≡ fails 1 0)
+    ∷ (fileQuestions (clogs 100 333 667) ≡ fails 10 0)
+    ∷ (fileQuestions (clogs 10000 333 667) ≡ fails 10 0)
+    ∷ (fileQuestions (clogs 4096 4097 0) ≡ fails 10 0)
+    ∷ []
+
 infixr 40 _and_
 abbrev _and_ : {A B : Type 0} → A → B → A × B
 a and b = (a, b)
 
-computed : All cases × All others × All requested × All forms
+computed : All cases × All others × All requested × All forms × All totals
 unfolding fileQuestions layoutQuestions sectionQuestions endQuestion settingQuestions itemQuestions stateQuestion stateObeys startQuestion
     rowNumberQuestion rowQuestion rowObeys costObeys outcomeNumberQuestion outcomeQuestion outcomesObey estimateQuestion undercutState
     undercutRow first sumTo rowValue rowRemainder pickRemainder weightedSum totalWeight problemOf statesAt rowsAt outcomesAt fileEnd
@@ -308,7 +342,7 @@ unfolding fileQuestions layoutQuestions sectionQuestions endQuestion settingQues
     opening report reports acceptedOf reportQuestions moved leadsTo moveSeconds hasOutcome wayTo waySeconds
     planText answerLine stateLines stateLine listed runStates decimal decimalFrom auditLine numberBytes tableBytes listTo entries16
     rateLine rateLines
-    partsTo settingBytes stateBytes rowBytes outcomeBytes encode weightTo gathered inSetForm setForm exchangeQuestions exchange
+    partsTo settingNumber settingBytes stateBytes rowBytes outcomeBytes encode weightTo gathered inSetForm setForm exchangeQuestions exchange
 computed = (
   refl and refl and refl and refl and refl and refl and refl and refl and refl and refl
       and refl and refl and refl and refl and refl and refl and refl and refl and refl and tt,
@@ -320,6 +354,8 @@ computed = (
       and refl and refl and refl and refl and refl
       and refl and refl and refl and refl and tt,
   refl and refl and refl and refl and refl and refl and refl and refl and tt,
+  refl and refl and refl and refl and refl and refl and refl and refl and refl and refl and refl and refl
+      and refl and refl and refl and refl and refl and refl and tt,
 )
 
 pub cases-hold : All cases
@@ -333,3 +369,6 @@ requested-hold = computed .2
 
 pub forms-hold : All forms
 forms-hold = computed .3
+
+pub totals-hold : All totals
+totals-hold = computed .4

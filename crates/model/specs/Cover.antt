@@ -3,7 +3,7 @@ use Prim.Native.Nat.{ℕ, zero, suc, _+_, _-_, _*_, _/_, _≤_, _<_}
 use mathlib.Core.Path.{_≡_}
 use mathlib.Core.Bool.{Bool, true, false}
 use lib.Dec.{eqb}
-use Rattle.model.specs.Limits.{weightTotal, giveUp}
+use Rattle.model.specs.Limits.{giveUp}
 use Rattle.model.specs.Problem.{Problem, Outcome, giveUpCost, ownRow}
 use Rattle.model.specs.Value.{rowTicks, weightedSum}
 use Rattle.model.specs.Walk.{In}
@@ -15,12 +15,13 @@ pub data Choice : Type 0 where
   picks-nothing : Choice
 
 -- What a cover asks at a state s of its set that is no goal. "Where it picks a row, all successors are in the set and 1000 × U(s)
--- is at least K × 1,000,000 × c plus the sum of w × U(successor). Where it gives up, U(s) is at least K × 1000 × D."
+-- is at least K × 1,000,000 × c plus the sum of w × U(successor). Where it gives up, U(s) is at least K × 1000 × D." E7: "W × U(s) is at
+-- least K × W × 1000 × c plus the sum of w × U(successor)."
 abbrev pub CoversAt : Problem → ℕ → (ℕ → ℕ) → (ℕ → Type 0) → ℕ → Choice → Type 0
 CoversAt p K u set s (picks-row r) =
     (ownRow p s r ≡ true)
     × ((o : Outcome) → In o (p .outcomes r) → set (o .successor))
-    × (K * (weightTotal * rowTicks p r) + weightedSum (p .outcomes r) u ≤ weightTotal * u s)
+    × (K * (p .total * rowTicks p r) + weightedSum (p .outcomes r) u ≤ p .total * u s)
 CoversAt p K u set s gives-up = K * giveUpCost p ≤ u s
 CoversAt p K u set s picks-nothing = ⊥
 

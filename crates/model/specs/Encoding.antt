@@ -2,9 +2,10 @@
 use Prim.Native.Nat.{ℕ, zero, suc}
 use mathlib.Core.Bool.{Bool, true, false}
 use mathlib.Core.List.{List, [], _∷_, _++_}
+use lib.Dec.{eqb}
 use lib.ListN.{length}
 use Rattle.model.specs.Bytes.{numberBytes}
-use Rattle.model.specs.Limits.{settingCount}
+use Rattle.model.specs.Limits.{minSettings, maxSettings, thousandths}
 use Rattle.model.specs.Problem.{Problem, Outcome}
 use Rattle.model.specs.Search.{sumTo}
 
@@ -13,9 +14,23 @@ unfoldable pub partsTo : (ℕ → List ℕ) → ℕ → List ℕ
 partsTo g zero = []
 partsTo g (suc k) = partsTo g k ++ g k
 
+-- Request E7: "The set form writes count 3 if W is 1,000", and else W is the fourth setting
+abbrev pub settingsOn : Bool → ℕ
+settingsOn true = minSettings
+settingsOn false = maxSettings
+
+abbrev pub fourthOn : Bool → ℕ → List ℕ
+fourthOn true total = []
+fourthOn false total = numberBytes 4 total
+
+unfoldable pub settingNumber : Problem → ℕ
+settingNumber p = settingsOn (eqb (p .total) thousandths)
+
 -- "32 bits each: start state; tolerance e in ticks; penalty D in seconds"
 unfoldable pub settingBytes : Problem → List ℕ
-settingBytes p = numberBytes 4 (p .start) ++ (numberBytes 4 (p .tolerance) ++ numberBytes 4 (p .penalty))
+settingBytes p =
+    numberBytes 4 (p .start)
+    ++ (numberBytes 4 (p .tolerance) ++ (numberBytes 4 (p .penalty) ++ fourthOn (eqb (p .total) thousandths) (p .total)))
 
 -- "goal byte (1 goal, 0 not)"
 abbrev pub goalByte : Bool → ℕ
@@ -42,7 +57,7 @@ outcomesTo p k = sumTo (λ r. length (p .outcomes r)) k
 -- "Four sections in this order, each after its 16-bit count: settings, states, rows, outcomes."
 unfoldable pub encode : Problem → List ℕ
 encode p =
-    (numberBytes 2 settingCount ++ settingBytes p)
+    (numberBytes 2 (settingNumber p) ++ settingBytes p)
     ++ ((numberBytes 2 (p .states) ++ partsTo (stateBytes p) (p .states))
     ++ ((numberBytes 2 (p .rows) ++ partsTo (rowBytes p) (p .rows))
     ++ (numberBytes 2 (outcomesTo p (p .rows)) ++ partsTo (λ r. outcomeBytes (p .outcomes r)) (p .rows))))

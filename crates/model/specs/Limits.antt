@@ -2,9 +2,12 @@
 use Prim.Native.Nat.{ℕ, _+_, _-_}
 use mathlib.Core.List.{List, [], _∷_}
 
--- "count 3", "count 1 to 1,024", "count 0 to 4,096", "count 0 to 8,192"
-abbrev pub settingCount : ℕ
-settingCount = 3
+-- "count 3", and since request E7 "Settings may have count 4"; "count 1 to 1,024", "count 0 to 4,096", "count 0 to 8,192"
+abbrev pub minSettings : ℕ
+minSettings = 3
+
+abbrev pub maxSettings : ℕ
+maxSettings = 4
 
 abbrev pub maxStates : ℕ
 maxStates = 1024
@@ -26,9 +29,12 @@ maxPenalty = 400000
 abbrev pub ticksPerSecond : ℕ
 ticksPerSecond = 1000
 
--- "A row's weights add to 1,000."
-abbrev pub weightTotal : ℕ
-weightTotal = 1000
+-- Request E7: "the weight total W: 100, 1,000, 4,096 or 10,000. With count 3, W is 1,000."
+abbrev pub weightTotals : List ℕ
+weightTotals = 100 ∷ 1000 ∷ 4096 ∷ 10000 ∷ []
+
+abbrev pub thousandths : ℕ
+thousandths = 1000
 
 -- "Kind 0: c seconds, 1 to 65,535."
 abbrev pub maxSeconds : ℕ

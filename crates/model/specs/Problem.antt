@@ -14,6 +14,7 @@ pub record Problem : Type 0 where
   pub start : ℕ
   pub tolerance : ℕ
   pub penalty : ℕ
+  pub total : ℕ
   pub states : ℕ
   pub rows : ℕ
   pub goal : ℕ → Bool

@@ -5,10 +5,10 @@ use mathlib.Core.List.{List, [], _∷_}
 use lib.Dec.{leb, ltb, eqb}
 use lib.ListN.{length}
 use Rattle.model.specs.Bytes.{u16At}
-use Rattle.model.specs.Limits.{settingCount, maxStates, maxRows, maxOutcomes, maxTolerance, maxPenalty}
-use Rattle.model.specs.Limits.{maxSeconds, minRate, maxRate, weightTotal}
+use Rattle.model.specs.Limits.{minSettings, maxSettings, weightTotals, maxStates, maxRows, maxOutcomes, maxTolerance, maxPenalty}
+use Rattle.model.specs.Limits.{maxSeconds, minRate, maxRate}
 use Rattle.model.specs.Problem.{Problem, Outcome, endRow, giveUpCost}
-use Rattle.model.specs.Search.{first, sumTo}
+use Rattle.model.specs.Search.{first, sumTo, oneOf}
 use Rattle.model.specs.Sections.{sectionEnd, statesAt, rowsAt, outcomesAt, fileEnd, problemOf}
 use Rattle.model.specs.Sections.{goalByteOf, kindOf, outcomeCountOf, costNumberOf}
 use Rattle.model.specs.Value.{rowValue, totalWeight}
@@ -49,18 +49,20 @@ endQuestion f = ask 3 3 (eqb (fileEnd f) (length f))
 
 unfoldable pub layoutQuestions : List ℕ → Verdict
 layoutQuestions f =
-    sectionQuestions 0 0 4 settingCount settingCount f
+    sectionQuestions 0 0 4 minSettings maxSettings f
     then sectionQuestions 1 (statesAt f) 6 1 maxStates f
     then sectionQuestions 2 (rowsAt f) 4 0 maxRows f
     then sectionQuestions 3 (outcomesAt f) 4 0 maxOutcomes f
     then endQuestion f
 
--- "Is the start below the state count, then e, then D in range? 4 (setting 0 to 2)."
+-- "Is the start below the state count, then e, then D in range? 4 (setting 0 to 2)." Request E7: "24 when the fourth setting isn't one of
+-- these, asked after the third under place 3; wherever a stretch of questions that holds 4 is named, 24 belongs to it."
 unfoldable pub settingQuestions : Problem → Verdict
 settingQuestions p =
     ask 4 0 (ltb (p .start) (p .states))
     then ask 4 1 (between 1 maxTolerance (p .tolerance))
     then ask 4 2 (between 1 maxPenalty (p .penalty))
+    then ask 24 3 (oneOf (p .total) weightTotals)
 
 -- "goal byte (1 goal, 0 not). A goal has no rows and H = 0. .. H is at most 1000 × D."
 unfoldable pub stateObeys : ℕ → ℕ → ℕ → ℕ → Bool
@@ -97,15 +99,19 @@ rowQuestion f p = askEach 8 (p .rows) (λ r. rowObeys (kindOf f r) (outcomeCount
 unfoldable pub outcomeNumberQuestion : List ℕ → Problem → Verdict
 outcomeNumberQuestion f p = ask 9 0 (eqb (sumTo (outcomeCountOf f) (p .rows)) (u16At f (outcomesAt f)))
 
--- each successor is one of n states and each weight is 1 to 1,000
-unfoldable pub outcomesObey : ℕ → List Outcome → Bool
-outcomesObey n [] = true
-outcomesObey n (o ∷ os) = (ltb (o .successor) n && between 1 weightTotal (o .weight)) && outcomesObey n os
+-- each successor is one of n states and each weight is 1 to W
+unfoldable pub outcomesObey : ℕ → ℕ → List Outcome → Bool
+outcomesObey n W [] = true
+outcomesObey n W (o ∷ os) = (ltb (o .successor) n && between 1 W (o .weight)) && outcomesObey n W os
 
--- "Are each row's successors states, its weights in range, its total 1,000? 10 (row)."
+-- a row's outcomes obey section 3: so does each, and their weights add to W
+abbrev pub rowSound : ℕ → ℕ → List Outcome → Bool
+rowSound n W os = outcomesObey n W os && eqb (totalWeight os) W
+
+-- "Are each row's successors states, its weights in range, its total 1,000? 10 (row)." E7: "W replaces 1,000 in the weight range, the row
+-- total"
 unfoldable pub outcomeQuestion : Problem → Verdict
-outcomeQuestion p =
-    askEach 10 (p .rows) (λ r. outcomesObey (p .states) (p .outcomes r) && eqb (totalWeight (p .outcomes r)) weightTotal)
+outcomeQuestion p = askEach 10 (p .rows) (λ r. rowSound (p .states) (p .total) (p .outcomes r))
 
 -- the first row of state s whose value under V lies below V(s); the number after its last row where there is none
 unfoldable pub undercutRow : Problem → (ℕ → ℕ) → ℕ → ℕ

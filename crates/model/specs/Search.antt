@@ -1,6 +1,8 @@
--- The first place that fails, and sums over the places before one.
+-- The first place that fails, sums over the places before one, and whether a number is one of a few.
 use Prim.Native.Nat.{ℕ, zero, suc, _+_}
-use mathlib.Core.Bool.{Bool, true, false}
+use mathlib.Core.Bool.{Bool, true, false, _||_}
+use mathlib.Core.List.{List, [], _∷_}
+use lib.Dec.{eqb}
 
 abbrev pub firstOn : Bool → ℕ → ℕ → ℕ
 firstOn true i rest = rest
@@ -15,3 +17,8 @@ first ok i (suc k) = firstOn (ok i) i (first ok (suc i) k)
 unfoldable pub sumTo : (ℕ → ℕ) → ℕ → ℕ
 sumTo g zero = 0
 sumTo g (suc k) = sumTo g k + g k
+
+-- whether x is one of these: 3 is one of 1, 3
+abbrev pub oneOf : ℕ → List ℕ → Bool
+oneOf x [] = false
+oneOf x (y ∷ ys) = eqb x y || oneOf x ys

@@ -5,7 +5,7 @@ use mathlib.Core.List.{List, [], _∷_}
 use lib.Dec.{eqb}
 use lib.ListN.{getD, drop}
 use Rattle.model.specs.Bytes.{u16At, u32At}
-use Rattle.model.specs.Limits.{millimetreSeconds, fileStick}
+use Rattle.model.specs.Limits.{minSettings, thousandths, millimetreSeconds, fileStick}
 use Rattle.model.specs.Problem.{Problem, Outcome}
 use Rattle.model.specs.Search.{sumTo}
 
@@ -29,6 +29,14 @@ fileEnd f = sectionEnd 4 f (outcomesAt f)
 -- "32 bits each: start state; tolerance e in ticks; penalty D in seconds"
 abbrev pub settingOf : List ℕ → ℕ → ℕ
 settingOf f k = u32At f (2 + 4 * k)
+
+-- Request E7: "Settings may have count 4, the fourth being the weight total W .. With count 3, W is 1,000."
+abbrev pub totalOn : Bool → ℕ → ℕ
+totalOn true fourth = thousandths
+totalOn false fourth = fourth
+
+abbrev pub totalOf : List ℕ → ℕ
+totalOf f = totalOn (eqb (u16At f 0) minSettings) (settingOf f 3)
 
 -- "Each 6 bytes: estimate H in ticks (32 bits), number of rows (8 bits), goal byte (1 goal, 0 not)."
 abbrev pub stateAt : List ℕ → ℕ → ℕ
@@ -98,6 +106,7 @@ problemOf f =
       start = settingOf f 0;
       tolerance = settingOf f 1;
       penalty = settingOf f 2;
+      total = totalOf f;
       states = u16At f (statesAt f);
       rows = u16At f (rowsAt f);
       goal = λ s. eqb (goalByteOf f s) 1;

@@ -3,7 +3,9 @@
 // The numbers of document 01, each under the name that specs/Limits.antt gives it.
 
 // The longest problem: section counts that question 2 lets through.
-pub const SETTING_COUNT: u32 = 3;
+pub const MIN_SETTINGS: u32 = 3;
+
+pub const MAX_SETTINGS: u32 = 4;
 
 pub const MAX_STATES: usize = 1024;
 
@@ -18,7 +20,14 @@ pub const MAX_PENALTY: u32 = 400000;
 
 pub const TICKS_PER_SECOND: u32 = 1000;
 
-pub const WEIGHT_TOTAL: u32 = 1000;
+// The weight totals that the fourth setting may name; where there is none it is THOUSANDTHS.
+pub const HUNDREDTHS: u32 = 100;
+
+pub const THOUSANDTHS: u32 = 1000;
+
+pub const TWELVE_BITS: u32 = 4096;
+
+pub const TEN_THOUSANDTHS: u32 = 10000;
 
 // Melt rates in tenths of a millimetre per minute.
 pub const MIN_RATE: u32 = 10;
@@ -52,7 +61,7 @@ pub const MAX_SPENT: u64 = 400000000000;
 // The longest first line of `plan` and line of `audit`, the longest line of a state, and room for the text of every plan.
 pub const LINE_MOST: usize = 73;
 
-pub const STATE_MOST: usize = 26;
+pub const STATE_MOST: usize = 27;
 
 pub const PLAN_ROOM: usize = LINE_MOST + STATE_MOST * MAX_STATES;
 

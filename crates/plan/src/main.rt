@@ -177,7 +177,7 @@ fn save_named(values: &[u32], picks: &[u16]) {
     save(&first[..n], values, &second[..m], picks);
 }
 
-// A file is at most 55,316 bytes long, and a longer input gets the same answer as its first 65,536 bytes.
+// A file is at most 55,320 bytes long, and a longer input gets the same answer as its first 65,536 bytes.
 fn plan_input(is_saving: bool) {
     let mut file = io::large_buffer();
     let got = read_whole(STDIN_FILENO, &mut file);

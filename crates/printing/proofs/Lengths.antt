@@ -12,7 +12,7 @@ use lib.IntN.{ℤ, pos, negsuc}
 use lib.ListN.{length, getD, length-append}
 use lib.Signed.{mag}
 use borrow.Author.Tests.{ltb-false}
-use Rattle.model.specs.Limits.{giveUp, maxStates, weightTotal, maxSeconds}
+use Rattle.model.specs.Limits.{giveUp, maxStates, maxSeconds}
 use Rattle.model.specs.Limits.{minRate, maxRate, rateCount, fileStick, stickLengths}
 use Rattle.model.specs.Lines.{codes, decimalOn, decimalFrom, decimal, blankNumber, blankSigned, answerLine, auditLine, pickOn, lineOn}
 use Rattle.model.specs.Lines.{listed, stateLine, stateLines, runText}
@@ -22,6 +22,7 @@ use Rattle.model.specs.Audit.{Audited, accepted}
 use Rattle.model.specs.Solution.{Answer, solved, spent, refused}
 use Rattle.model.specs.Buffers.{lineMost, stateMost}
 use Rattle.guarantee.specs.Rates.{seconds-high}
+use Rattle.guarantee.specs.Totals.{maxTotal}
 use Rattle.printing.specs.Texts.{Brief}
 use Rattle.printing.proofs.Listing.{no-lines, lines-next}
 use Rattle.printing.proofs.Sheeting.{no-rates, rates-next, no-sheets, sheets-next}
@@ -114,14 +115,14 @@ pick-most : (b : Bool) (r : ℕ) → r < bits16 → length (pickOn b r) ≤ 6
 pick-most true r h = omega arith
 pick-most false r h = omega (arith, decimal-most 4 r (omega arith))
 
-state-most : (s v r m : ℕ) → s < maxStates → v < bits32 → r < bits16 → m < weightTotal → length (stateLine s v r m) ≤ stateMost
+state-most : (s v r m : ℕ) → s < maxStates → v < bits32 → r < bits16 → m < maxTotal → length (stateLine s v r m) ≤ stateMost
 unfolding stateLine
 state-most s v r m p q w low =
     let pick = pickOn (eqb r giveUp) r in
-    two-most (decimal s ++ blankNumber v ++ pick) (blankNumber m) (codes "\n") 21 4 1
+    two-most (decimal s ++ blankNumber v ++ pick) (blankNumber m) (codes "\n") 21 5 1
     (two-most (decimal s) (blankNumber v) pick 4 11 6 (decimal-most 3 s (omega arith))
     (omega (arith, decimal-most 9 v (omega arith))) (pick-most (eqb r giveUp) r w))
-    (omega (arith, decimal-most 2 m (omega arith))) (omega arith)
+    (omega (arith, decimal-most 3 m (omega arith))) (omega arith)
 
 -- a text of n parts is no longer than they are
 parts-most
@@ -140,7 +141,7 @@ line-most false line n h = omega arith
 module _ (values picks : List ℕ) (remainder : ℕ → ℕ) (walk : List ℕ) (values-fit : (j : ℕ) → getD values j 0 < bits32)
     (picks-fit : (j : ℕ) → getD picks j 0 < bits16) where
   lines-most
-      : (n : ℕ) → n ≤ maxStates → ((j : ℕ) → j < n → remainder j < weightTotal)
+      : (n : ℕ) → n ≤ maxStates → ((j : ℕ) → j < n → remainder j < maxTotal)
       → length (stateLines values picks remainder walk n) ≤ stateMost * n
   lines-most n h low =
       let line : ℕ → List ℕ = λ k. stateLine k (getD values k 0) (getD picks k 0) (remainder k) in
@@ -149,7 +150,7 @@ module _ (values picks : List ℕ) (remainder : ℕ → ℕ) (walk : List ℕ) (
       (λ k l. line-most (listed k walk) (line k) stateMost (state-most k _ _ _ (omega arith) (values-fit k) (picks-fit k) (low k l)))
 
   pub run-most
-      : (a : Answer) (n : ℕ) → length (answerLine a) ≤ lineMost → ((j : ℕ) → j < n → remainder j < weightTotal)
+      : (a : Answer) (n : ℕ) → length (answerLine a) ≤ lineMost → ((j : ℕ) → j < n → remainder j < maxTotal)
       → Brief (runText a values picks remainder walk n) n
   run-most a n first low h =
       omega (arith, length-append (answerLine a) (stateLines values picks remainder walk n), first, lines-most n h low)

@@ -8,14 +8,16 @@ use mathlib.Core.List.{List, _++_}
 use lib.Dec.{leb}
 use lib.ListN.{getD, length, replicate, length-replicate}
 use borrow.Author.Tests.{le-leb, lt-leb}
-use Rattle.model.specs.Limits.{maxStates, weightTotal}
+use Rattle.model.specs.Limits.{maxStates, weightTotals}
 use Rattle.model.specs.Lines.{stateLine, stateLines, lineOn, listed}
 use Rattle.model.specs.Problem.{Problem}
 use Rattle.model.specs.Rounds.{fillTo}
+use Rattle.model.specs.Search.{oneOf}
 use Rattle.model.specs.Sections.{problemOf}
 use Rattle.model.specs.Value.{byState, rowRemainder, pickRemainderOn, pickRemainder}
 use Rattle.guarantee.specs.Listings.{PickLine, gives-up, takes-row}
 use Rattle.guarantee.specs.Tables.{fill-length, fill-entry}
+use Rattle.guarantee.specs.Totals.{maxTotal, known-low, known-high}
 use Rattle.guarantee.specs.Values.{rowRemainder-low}
 use Rattle.printing.proofs.Widths.{bits16}
 use Rattle.programs.specs.Remainders.{remainderWithin, remainderAt, RemaindersTo}
@@ -39,17 +41,21 @@ module _ (f values : List ℕ) (pick : ℕ) where
   line-remainder s (takes-row own there is) = sym (row-left there refl) ∙ sym is
 
 -- a remainder fits into 16 bits
-pub remainder-fits : (p : Problem) (v : ℕ → ℕ) (r : ℕ) {x : ℕ} → x ≡ rowRemainder p v r → x < bits16
-remainder-fits p v r e = omega (arith, rowRemainder-low p r v)
+module _ (p : Problem) (known : oneOf (p .total) weightTotals ≡ true) (v : ℕ → ℕ) (r : ℕ) where
+  remainder-low : rowRemainder p v r < maxTotal
+  remainder-low = omega (arith, rowRemainder-low p r (known-low (p .total) known) v, known-high (p .total) known)
 
-pick-remainder-low : (b : Bool) (p : Problem) (v : ℕ → ℕ) (r : ℕ) → pickRemainderOn b p v r < weightTotal
-pick-remainder-low true p v r = omega arith
-pick-remainder-low false p v r = rowRemainder-low p r v
+  pub remainder-fits : {x : ℕ} → x ≡ rowRemainder p v r → x < bits16
+  remainder-fits e = omega (arith, remainder-low)
+
+  pick-remainder-low : (b : Bool) → pickRemainderOn b p v r < maxTotal
+  pick-remainder-low true = omega arith
+  pick-remainder-low false = remainder-low
 
 -- the table of them: where there was no run, and entry by entry
 pub none-filled : {f values picks : List ℕ} {n : ℕ} → n ≤ 0 → RemaindersTo f values picks n (replicate maxStates 0)
 unfolding fillTo
-none-filled {n = n} h = let e : n ≡ 0 = omega arith in record { filled = rw e refl }
+none-filled {n = n} h = let e : n ≡ 0 = omega arith in record { total-known = λ l. absurd (omega arith); filled = rw e refl }
 
 module _ {f values picks table : List ℕ} {n : ℕ} (h : RemaindersTo f values picks n table) where
   pub table-long : length table ≡ maxStates
@@ -61,9 +67,11 @@ module _ {f values picks table : List ℕ} {n : ℕ} (h : RemaindersTo f values 
       let room : n ≤ length (replicate {A = ℕ} maxStates 0) = omega (arith, length-replicate {A = ℕ} maxStates 0) in
       rw (h .filled) (fill-entry (remainderAt f values picks) (replicate maxStates 0) n s room l)
 
-  pub table-low : (s : ℕ) → n ≤ maxStates → s < n → getD table s 0 < weightTotal
+  pub table-low : (s : ℕ) → n ≤ maxStates → s < n → getD table s 0 < maxTotal
   unfolding remainderWithin
-  table-low s few l = rw (table-entry s few l) (pick-remainder-low (leb (problemOf f .rows) (getD picks s 0)) _ _ _)
+  table-low s few l =
+      rw (table-entry s few l)
+      (pick-remainder-low (problemOf f) (h .total-known (omega arith)) _ _ (leb (problemOf f .rows) (getD picks s 0)))
 
 -- lines with the same remainders at listed states are the same
 pub lines-same

@@ -1,14 +1,16 @@
 -- The remainders of a plan: what they stand on, a file with its index where there was a run; and what a run of `plan` leaves.
 use mathlib.Core.Path.{_≡_}
 use Prim.Native.Nat.{ℕ, _≤_, _<_}
+use mathlib.Core.Bool.{true}
 use mathlib.Core.List.{List}
 use lib.Dec.{leb}
 use lib.ListN.{length, getD, replicate}
 use Rattle.model.specs.Answers.{answerOf, solveCarries}
-use Rattle.model.specs.Limits.{maxStates, planRounds}
+use Rattle.model.specs.Limits.{maxStates, weightTotals, planRounds}
 use Rattle.model.specs.Lines.{runStates}
 use Rattle.model.specs.Promises.{Leaves}
 use Rattle.model.specs.Rounds.{fillTo}
+use Rattle.model.specs.Search.{oneOf}
 use Rattle.model.specs.Sections.{problemOf}
 use Rattle.model.specs.Solution.{Tables, solution}
 use Rattle.model.specs.Value.{byState, pickRemainderOn}
@@ -22,8 +24,9 @@ remainderWithin f values pick = pickRemainderOn (leb (problemOf f .rows) pick) (
 abbrev pub remainderAt : List ℕ → List ℕ → List ℕ → ℕ → ℕ
 remainderAt f values picks = λ s. remainderWithin f values (getD picks s 0)
 
--- a table of those of the first n states, and zeros
+-- a table of those of the first n states, and zeros; where there are any, the weight total is one of the four
 pub record RemaindersTo (f values picks : List ℕ) (n : ℕ) (table : List ℕ) : Type 0 where
+  pub total-known : 0 < n → oneOf (problemOf f .total) weightTotals ≡ true
   pub filled : table ≡ fillTo (remainderAt f values picks) (replicate maxStates 0) n
 
 -- a file with its index and its number of rows, and a table of values that is long enough

@@ -9,7 +9,7 @@ use Rattle.model.specs.Questions.{passes, layoutQuestions}
 use Rattle.model.specs.Sections.{statesAt, rowsAt, outcomesAt, problemOf}
 use Rattle.guarantee.specs.WellFormed.{sectioned}
 use Rattle.reading.specs.declared.layout.Layout.{Layout}
-use Rattle.reading.specs.Laid.{LaidOut, firstState}
+use Rattle.reading.specs.Laid.{LaidOut}
 
 -- the counts of all four sections lie in the file
 pub record CountsThere (f : List ℕ) : Type 0 where
@@ -38,7 +38,6 @@ module _ {f : List ℕ} (whole : layoutQuestions f ≡ passes) (l : Layout) {i j
       let states : l .states ≡ u16At f (statesAt f) = rw at-states at n in
       let rows : l .rows ≡ u16At f (rowsAt f) = rw at-rows at m in
       let outcomes : l .outcomes ≡ u16At f (outcomesAt f) = rw at-outcomes at o in
-      let e1 : l .at1 ≡ firstState = omega (arith, s .states-at) in
       let e2 : l .at2 ≡ l .at1 + 6 * l .states + 2 = omega (arith, s .rows-at) in
       let e3 : l .at3 ≡ l .at2 + 4 * l .rows + 2 = omega (arith, s .outcomes-at) in
       let end : l .at3 + 4 * l .outcomes ≡ length f = omega (arith, s .end-at) in
@@ -49,7 +48,6 @@ module _ {f : List ℕ} (whole : layoutQuestions f ≡ passes) (l : Layout) {i j
         states-at = omega arith;
         rows-at = omega arith;
         outcomes-at = omega arith;
-        states-begin = e1;
         states-there = omega arith;
         rows-there = omega arith;
         outcomes-there = end;
@@ -57,5 +55,5 @@ module _ {f : List ℕ} (whole : layoutQuestions f ≡ passes) (l : Layout) {i j
         states-high = omega (arith, s .states-high);
         rows-high = omega (arith, s .rows-high);
         outcomes-high = omega (arith, s .outcomes-high);
-        outcomes-near = omega (arith, s .states-high, s .rows-high);
+        outcomes-near = omega (arith, s .states-at, s .settings-high, s .states-high, s .rows-high);
       }

@@ -2,7 +2,7 @@
 -- The problem is opened where the two readings of the outcomes meet.
 use mathlib.Core.Path.{_≡_, _∙_}
 use Prim.Native.Nat.{ℕ, _+_, _-_, _*_, _/_, _%_, _≤_, _<_}
-use native.Mathlib.Nat.{div-le-self, mul-le-mul}
+use native.Mathlib.Nat.{div-le-self, div-mul-le-self, div-add-mod', mul-le-mul}
 use native.Mathlib.Omega.{arith}
 use mathlib.Core.Bool.{Bool, true, false}
 use mathlib.Core.List.{List}
@@ -10,7 +10,7 @@ use borrow.Author.Tests.{le-ltb}
 use lib.Dec.{eqb, ltb}
 use lib.ListN.{length, getD, drop}
 use Rattle.model.specs.Bytes.{u16At}
-use Rattle.model.specs.Limits.{weightTotal, maxRows, maxSeconds, fileStick, millimetreSeconds, ticksPerSecond, valueBound}
+use Rattle.model.specs.Limits.{maxRows, maxSeconds, fileStick, millimetreSeconds, ticksPerSecond, valueBound}
 use Rattle.model.specs.Sections.{problemOf, lengthSeconds, rateSeconds, secondsOn, rowAt, kindOf, costNumberOf, outcomeAt}
 use Rattle.model.specs.Sections.{outcomeCountOf}
 use Rattle.model.specs.Value.{weightedSum, rowValue, rowRemainder}
@@ -23,6 +23,17 @@ use Rattle.reading.specs.Bounds.{byteBound, shortBound}
 -- a weight of two bytes times a value of four
 pub product-high : {w x : ℕ} → w < shortBound → x < valueBound → w * x < shortBound * valueBound
 product-high a b = omega (arith, mul-le-mul a b)
+
+-- an average is no more than the sum, and what is left of the sum is the remainder
+module _ (sum W : ℕ) {mean : ℕ} (is : mean ≡ sum / W) where
+  pub mean-high : mean ≤ sum
+  mean-high = rw is (div-le-self sum W)
+
+  pub mean-taken : mean * W ≤ sum
+  mean-taken = rw is (div-mul-le-self sum W)
+
+  pub left-over : sum - mean * W ≡ sum % W
+  left-over = rw is (let whole = div-add-mod' sum W in omega arith)
 
 -- a cost number of two bytes gives at most this many seconds, whatever its kind
 abbrev secondsBound : ℕ
@@ -74,13 +85,13 @@ module _ {f index : List ℕ} {entries r : ℕ} (h : RowReady f index entries r)
   cost-fits bytes = omega (arith, h .ready .ticks r (h .row-there), cost-bounded f bytes r)
 
   pub row-value-is
-      : (v : ℕ → ℕ) → getD index (rowsBase + 2 * r + 1) 0 + weightedSum (outcomesIn (partOf f index r)) v / weightTotal
+      : (v : ℕ → ℕ) → getD index (rowsBase + 2 * r + 1) 0 + weightedSum (outcomesIn (partOf f index r)) v / problemOf f .total
       ≡ rowValue (problemOf f) v r
   unfolding rowValue
   row-value-is v = rw (part-holds, h .ready .ticks r (h .row-there))
 
   pub row-remainder-is
-      : (v : ℕ → ℕ) → weightedSum (outcomesIn (partOf f index r)) v % weightTotal ≡ rowRemainder (problemOf f) v r
+      : (v : ℕ → ℕ) → weightedSum (outcomesIn (partOf f index r)) v % problemOf f .total ≡ rowRemainder (problemOf f) v r
   unfolding rowRemainder
   row-remainder-is v = rw part-holds
 

@@ -1,11 +1,13 @@
 -- What stands once questions 1 to 10 have said yes: the index holds what it should, and all bytes that a row needs are there.
 use mathlib.Core.Path.{_≡_}
+use mathlib.Core.Bool.{true}
 use Prim.Native.Nat.{ℕ, suc, _+_, _*_, _/_, _≤_, _<_}
 use mathlib.Core.List.{List}
 use lib.ListN.{length, getD, drop}
 use Rattle.model.specs.Bytes.{u16At}
-use Rattle.model.specs.Limits.{maxStates, maxRows}
+use Rattle.model.specs.Limits.{maxStates, maxRows, weightTotals}
 use Rattle.model.specs.Problem.{endRow}
+use Rattle.model.specs.Search.{oneOf}
 use Rattle.model.specs.Sections.{problemOf, outcomeAt, outcomeCountOf}
 use Rattle.model.specs.Questions.{passes, layoutQuestions, undercutState, undercutRow}
 use Rattle.model.specs.Value.{rowTicks}
@@ -14,6 +16,7 @@ use Rattle.reading.specs.Bounds.{maxByte}
 
 pub record Ready (f index : List ℕ) : Type 0 where
   pub whole : layoutQuestions f ≡ passes
+  pub total-known : oneOf (problemOf f .total) weightTotals ≡ true
   pub size : length index ≡ indexSize
   pub first-row : (s : ℕ) → s ≤ problemOf f .states → getD index s 0 ≡ problemOf f .firstRow s
   pub outcomes-at : (r : ℕ) → r ≤ problemOf f .rows → getD index (rowsBase + 2 * r) 0 ≡ outcomeAt f r

@@ -1,17 +1,14 @@
 // The four sections of a file: where the items of each begin, and how many there are.
 use crate::numbers::u16_at;
-use model::SETTING_COUNT;
 ghost use mathlib.Core.Path.{_≡_};
 ghost use Prim.Native.Nat.{_+_, _≤_};
 ghost use lib.ListN.{length};
 ghost use Rattle.model.specs.Questions.{passes, layoutQuestions};
 ghost use Rattle.model.specs.Sections.{sectionEnd};
-ghost use Rattle.reading.specs.Laid.{LaidOut};
+ghost use Rattle.reading.specs.Laid.{firstState, LaidOut};
 
-// Where the settings and the states begin: after the counts of their sections, 2 bytes each; a setting has 4 bytes.
+// Where the settings begin: after their count.
 pub const FIRST_SETTING: usize = 2;
-
-pub const FIRST_STATE: usize = FIRST_SETTING + 4 * (SETTING_COUNT as usize) + 2;
 
 // Where the items of sections 1, 2 and 3 begin, and how many there are.
 pub struct Layout {
@@ -29,6 +26,14 @@ pub fn section_end(file: &[u8], i: usize, size: usize) -> usize
     ensures { λ r. ⌜ r ≡ sectionEnd size (now (file .entry)) i ⌝ }
 {
     i + 2 + size * (u16_at(file, i) as usize)
+}
+
+// Where the states begin: after the settings, 4 bytes each and as many as their count says, and the states' own count.
+pub fn first_state(file: &[u8]) -> usize
+    requires { ⌜ 2 ≤ length (now file) ⌝ }
+    ensures { λ r. ⌜ r ≡ firstState (now (file .entry)) ⌝ }
+{
+    FIRST_SETTING + 4 * (u16_at(file, 0) as usize) + 2
 }
 
 // The layout of a file whose sections are whole.

@@ -1,6 +1,6 @@
 // The states of a file whose sections are whole: which are goals, and their estimates.
 // The rows of the states are in the index.
-use crate::layout::FIRST_STATE;
+use crate::layout::first_state;
 use crate::numbers::byte_at;
 use crate::numbers::u32_at;
 ghost use mathlib.Core.Path.{_≡_};
@@ -16,7 +16,7 @@ pub fn is_goal(file: &[u8], s: usize) -> bool
     requires { ⌜ (layoutQuestions (now file) ≡ passes) × (s < problemOf (now file) .states) ⌝ }
     ensures { λ r. ⌜ r ≡ problemOf (now (file .entry)) .goal s ⌝ }
 {
-    byte_at(file, FIRST_STATE + 6 * s + 5) == 1
+    byte_at(file, first_state(file) + 6 * s + 5) == 1
 }
 
 // The estimate of state s, in ticks.
@@ -24,7 +24,7 @@ pub fn estimate_of(file: &[u8], s: usize) -> u32
     requires { ⌜ (layoutQuestions (now file) ≡ passes) × (s < problemOf (now file) .states) ⌝ }
     ensures { λ r. ⌜ r ≡ problemOf (now (file .entry)) .estimate s ⌝ }
 {
-    u32_at(file, FIRST_STATE + 6 * s)
+    u32_at(file, first_state(file) + 6 * s)
 }
 
 // The number of rows of state s.
@@ -32,7 +32,7 @@ pub fn row_count_of(file: &[u8], s: usize) -> u32
     requires { ⌜ (layoutQuestions (now file) ≡ passes) × (s < problemOf (now file) .states) ⌝ }
     ensures { λ r. ⌜ (r ≡ problemOf (now (file .entry)) .rowCount s) × (r < byteBound) ⌝ }
 {
-    byte_at(file, FIRST_STATE + 6 * s + 4)
+    byte_at(file, first_state(file) + 6 * s + 4)
 }
 
 // Fills in the estimates of the file's n states.

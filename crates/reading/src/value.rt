@@ -2,17 +2,23 @@
 use crate::index::INDEX;
 use crate::index::ROWS;
 use crate::numbers::u16_at;
-use model::WEIGHT_TOTAL;
+use crate::settings::total_of;
+use model::HUNDREDTHS;
+use model::TEN_THOUSANDTHS;
+use model::THOUSANDTHS;
+use model::TWELVE_BITS;
 ghost use mathlib.Core.Path.{_≡_};
+ghost use mathlib.Core.Bool.{true};
 ghost use Prim.Native.Nat.{_+_, _*_, _/_, _%_, _≤_, _<_};
 ghost use lib.Dec.{ltb};
 ghost use lib.ListN.{length};
-ghost use Rattle.model.specs.Limits.{valueBound, weightTotal};
+ghost use Rattle.model.specs.Limits.{valueBound, weightTotals};
+ghost use Rattle.model.specs.Search.{oneOf};
 ghost use Rattle.model.specs.Sections.{problemOf};
 ghost use Rattle.model.specs.Value.{rowValue, rowRemainder, weightedSum, byState};
 ghost use Rattle.reading.specs.Ready.{Ready, RowReady, SumThere, Undercuts};
 ghost use Rattle.reading.specs.Tests.{outcomesIn};
-ghost use Rattle.reading.specs.Bounds.{shortBound};
+ghost use Rattle.reading.specs.Bounds.{shortBound, maxByte};
 
 // w × V(successor), not rounded.
 fn product(weight: u32, value: u32) -> u64
@@ -26,6 +32,7 @@ fn product(weight: u32, value: u32) -> u64
 fn weighted_sum(part: &[u8], values: &[u32]) -> u64
     requires { ⌜ SumThere (now part) (length (now values)) ⌝ }
     ensures { λ r. ⌜ r ≡ weightedSum (outcomesIn (now (part .entry))) (byState (now (values .entry))) ⌝ }
+    ensures bounded { λ r. ⌜ r ≤ shortBound * valueBound * maxByte ⌝ }
 {
     let count = part.len() / 4;
     let mut sum: u64 = 0;
@@ -38,19 +45,38 @@ fn weighted_sum(part: &[u8], values: &[u32]) -> u64
     sum
 }
 
-// A weighted sum divided by 1,000, rounded down once.
-fn average(sum: u64) -> u64
-    ensures { λ r. ⌜ r ≡ sum / weightTotal ⌝ }
+// A weighted sum divided by a total, rounded down once.
+fn quotient(sum: u64, total: u32) -> u64
+    requires { ⌜ 1 ≤ total ⌝ }
+    ensures { λ r. ⌜ r ≡ sum / total ⌝ }
 {
-    sum / (WEIGHT_TOTAL as u64)
+    sum / (total as u64)
 }
 
-// What the average of a weighted sum leaves of it, 0 to 999.
-fn remainder_of(sum: u64, mean: u64) -> u64
-    requires { ⌜ mean ≡ sum / weightTotal ⌝ }
-    ensures { λ r. ⌜ r ≡ sum % weightTotal ⌝ }
+// A weighted sum divided by W. A division by a number that is known before the program runs is the faster one, so each of the four
+// totals has its own.
+fn average(sum: u64, total: u32) -> u64
+    requires { ⌜ oneOf total weightTotals ≡ true ⌝ }
+    ensures { λ r. ⌜ r ≡ sum / total ⌝ }
 {
-    sum - mean * (WEIGHT_TOTAL as u64)
+    if total == THOUSANDTHS {
+        return quotient(sum, THOUSANDTHS);
+    }
+    if total == HUNDREDTHS {
+        return quotient(sum, HUNDREDTHS);
+    }
+    if total == TWELVE_BITS {
+        return quotient(sum, TWELVE_BITS);
+    }
+    quotient(sum, TEN_THOUSANDTHS)
+}
+
+// What the average of a weighted sum leaves of it, 0 to W - 1.
+fn remainder_of(sum: u64, mean: u64, total: u32) -> u64
+    requires { ⌜ mean ≡ sum / total ⌝ }
+    ensures { λ r. ⌜ r ≡ sum % total ⌝ }
+{
+    sum - mean * (total as u64)
 }
 
 // The value of a row, and what its division left.
@@ -59,7 +85,7 @@ pub struct RowValue {
     pub remainder: u64,
 }
 
-// The value of row r under `values`: its cost in ticks and the weighted sum, divided by 1,000 once; and the remainder.
+// The value of row r under `values`: its cost in ticks and the weighted sum, divided by W once; and the remainder.
 pub fn row_value(file: &[u8], index: &[u32; INDEX], values: &[u32], r: usize) -> RowValue
     requires { ⌜ RowReady (now file) (now index) (length (now values)) r ⌝ }
     ensures { λ q. ⌜ q .value ≡ rowValue (problemOf (now (file .entry))) (byState (now (values .entry))) r ⌝ }
@@ -69,9 +95,10 @@ pub fn row_value(file: &[u8], index: &[u32; INDEX], values: &[u32], r: usize) ->
     let cost = index[ROWS + 2 * r + 1] as u64;
     let to = index[ROWS + 2 * r + 2] as usize;
     let sum = weighted_sum(&file[from..to], values);
-    let mean = average(sum);
+    let total = total_of(file);
+    let mean = average(sum, total);
     let value = cost + mean;
-    let remainder = remainder_of(sum, mean);
+    let remainder = remainder_of(sum, mean, total);
     RowValue { value, remainder }
 }
 

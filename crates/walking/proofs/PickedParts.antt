@@ -119,6 +119,17 @@ module _ {f index : List ℕ} (w : Walkable f index) (s : ℕ) (state : s < prob
     ends : Ends
     ends = ends-on _ _ refl refl
 
+    -- where there are outcomes, the state has rows and is no goal
+    pub picked-open : from < to → problemOf f .goal s ≡ false
+    picked-open some = open-on (problemOf f .goal s) refl
+      where
+        open-on : (g : Bool) → problemOf f .goal s ≡ g → problemOf f .goal s ≡ false
+        open-on false e = e
+        open-on true e =
+            let rows = w .formed .goal-rows s state e in
+            let empty = at .stray (λ l h. omega (arith, first-row, end-row)) in
+            absurd (omega (arith, empty .0, empty .1))
+
     pub picked-leads : leads f from to ≡ next (problemOf f) (byState picks) s
     picked-leads = ends .leads-next
 

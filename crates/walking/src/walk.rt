@@ -6,9 +6,11 @@ use reading::numbers::u16_at;
 use reading::settings::start_of;
 use reading::states::is_goal;
 ghost use mathlib.Core.Path.{_≡_};
+ghost use mathlib.Core.Bool.{false, not};
 ghost use Prim.Native.Nat.{_+_, _≤_, _<_};
 ghost use lib.ListN.{length, getD};
 ghost use Rattle.model.specs.Limits.{maxRows, maxStates};
+ghost use Rattle.model.specs.Questions.{passes, layoutQuestions};
 ghost use Rattle.model.specs.Sections.{problemOf};
 ghost use Rattle.reading.specs.Tests.{indexSize};
 ghost use Rattle.walking.specs.Trails.{Picked, Outcomes, Under, Over, visitedState, visitedOutcomes};
@@ -55,6 +57,19 @@ fn picked(index: &[u32; INDEX], s: usize, pick: usize) -> Part
     }
 }
 
+// Whether state s, whose picked outcomes stand from byte `from` up to byte `to`, is no goal. A goal has no rows, so where there are
+// outcomes its bytes need not be read.
+fn no_goal(file: &[u8], from: usize, to: usize, s: usize) -> bool
+    requires { ⌜ (layoutQuestions (now file) ≡ passes) × (s < problemOf (now file) .states)
+        × (from < to → problemOf (now file) .goal s ≡ false) ⌝ }
+    ensures { λ r. ⌜ r ≡ not (problemOf (now (file .entry)) .goal s) ⌝ }
+{
+    if from < to {
+        return true;
+    }
+    !is_goal(file, s)
+}
+
 // Visits state s, which is not marked: marks it, visits its outcomes, and then lists it unless it is a goal. The list has
 // n states before, and as many as the answer says after.
 fn visit_state(
@@ -76,11 +91,11 @@ fn visit_state(
     marks[s] = 1;
     let part = picked(index, s, picks[s] as usize);
     let k = visit_outcomes(file, index, picks, marks, list, part.from, part.to, n);
-    if is_goal(file, s) {
-        return k;
+    if no_goal(file, part.from, part.to, s) {
+        list[k] = s as u16;
+        return k + 1;
     }
-    list[k] = s as u16;
-    k + 1
+    k
 }
 
 // Visits the outcomes that stand from byte `from` up to byte `to`, in order, where their states are not marked.

@@ -34,15 +34,27 @@ struct Load {
 const LOADS: [Load; 7] = [
     Load { name: "two outcomes, four rows", sizes: &[16, 64, 256, 1_024], draft: four_rows },
     Load { name: "two outcomes, most rows", sizes: &[16, 64, 256], draft: most_rows },
-    Load { name: "255 falling", sizes: &[256, 1_024], draft: |r, n| wide(r, n, Order::Falling) },
-    Load { name: "255 mixed", sizes: &[256, 1_024], draft: |r, n| wide(r, n, Order::Mixed) },
-    Load { name: "255 rising", sizes: &[256, 1_024], draft: |r, n| wide(r, n, Order::Rising) },
+    Load {
+        name: "255 falling",
+        sizes: &[256, 1_024],
+        draft: |r, n| wide(r, n, Order::Falling, None),
+    },
+    Load { name: "255 mixed", sizes: &[256, 1_024], draft: |r, n| wide(r, n, Order::Mixed, None) },
+    Load {
+        name: "255 rising",
+        sizes: &[256, 1_024],
+        draft: |r, n| wide(r, n, Order::Rising, None),
+    },
     Load {
         name: "255 with repeats",
         sizes: &[16, 1_024],
-        draft: |r, n| wide(r, n, Order::Repeats),
+        draft: |r, n| wide(r, n, Order::Repeats, None),
     },
-    Load { name: "255 to one state", sizes: &[2, 1_024], draft: |r, n| wide(r, n, Order::One) },
+    Load {
+        name: "255 to one state",
+        sizes: &[2, 1_024],
+        draft: |r, n| wide(r, n, Order::One, None),
+    },
 ];
 
 /// Four rows at each state: at 1,024 states, 4,096 rows and 8,192 outcomes.
@@ -62,7 +74,7 @@ fn two_outcomes(random: &mut Random, states: usize, rows: usize) -> Draft {
         draft.add_state();
         for _ in rows * state / states..rows * (state + 1) / states {
             let (kind, cost) = any_cost(random);
-            let weights = any_weights(random, 2);
+            let weights = any_weights(random, 2, USUAL_TOTAL);
             let outcomes: Vec<(u16, u16)> =
                 weights.into_iter().map(|weight| (random.below(states) as u16, weight)).collect();
             draft.add_row(kind, cost, &outcomes);

@@ -128,7 +128,7 @@ impl Measured {
     fn load(load: &Load, states: usize, seed: u64, files: u64) -> Measured {
         let mut measured = Measured::default();
         for number in 0..files {
-            let file = load.file(&mut Random::of_file(seed, number), states);
+            let file = load.file(&mut Random::of_file(seed, number), states, None);
             let shift = &mut Shift::new(file);
             measured.compare(shift);
             measured.time(shift);

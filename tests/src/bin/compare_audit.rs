@@ -1,29 +1,35 @@
 //! Compares the product's audit with `audit.rs`: verdict, place and excess, on files whole and
-//! damaged and on tables of many origins, and holds that the tables stay as they were lent. Every
-//! solved run's own tables must be accepted with its C.
+//! damaged, in every total, and on tables of many origins, and holds that the tables stay as they were
+//! lent. Every solved run's own tables must be accepted with its C.
 //!
 //! `compare_audit [seed] [files]`
 
 use comparisons::audit::audit_file;
-use comparisons::damage::damaged;
+use comparisons::damage::{damaged, one_wrong_each};
 use comparisons::encode::Draft;
-use comparisons::examples::{file_p, one_state};
+use comparisons::examples::{file_p, one_state, stick, with_total};
+use comparisons::extremes::{at_limits, deep_chain};
 use comparisons::harness::{argument, noise, Tally};
 use comparisons::library::{self, asked_of_audit, asked_of_lent, ACCEPTED, ANSWER};
 use comparisons::limits::*;
-use comparisons::made::{at_limits, deep_chain, made};
-use comparisons::problem::Problem;
+use comparisons::made::made;
+use comparisons::problem::{Problem, FILE_QUESTIONS};
 use comparisons::proposal::Proposal;
 use comparisons::random::Random;
+use comparisons::totals::FOURTHS;
 use std::process::ExitCode;
 
 /// A file whose run takes more rounds than this is audited with the tables that it has then.
 const MOST_ROUNDS: u64 = 5_000;
 /// Changed tables tried on each file.
 const CHANGES: usize = 8;
+/// Audits of each file that is wrong for a question.
+const TIMES: usize = 5;
 /// How often each of the questions 15 to 19 must be met.
 const LEAST_MET: u64 = 200;
-/// How many there must be of other things.
+/// How often each of the questions 1 to 11 must be met.
+const LEAST_OF_FILES: u64 = 50;
+/// How many there must be of other things, in each total its share.
 const LEAST: [(&str, u64); 3] =
     [("accepted", 7_500), ("refused", 14_000), ("solved runs audited", 1_900)];
 
@@ -45,8 +51,8 @@ fn compare(random: &mut Random, tally: &mut Tally, file: &[u8], proposal: &Propo
     let (code, answer) = paper(file, proposal);
     tally.count("pairs of tables");
     match code {
-        ACCEPTED => tally.count("accepted"),
-        _ => tally.meet(answer[0] as u64),
+        ACCEPTED => tally.count_on(file, "accepted"),
+        _ => tally.meet(answer[0] as u64, file),
     }
     for length in [ANSWER, random.below(ANSWER + 3)] {
         let mut given: Vec<i64> = noise(random, length);
@@ -65,7 +71,7 @@ fn compare_own(tally: &mut Tally, file: &[u8], proposal: &Proposal, least_cost: 
     };
     let mut answer = [-1; ANSWER];
     let code = product(tally, file, proposal, &mut answer);
-    tally.count("solved runs audited");
+    tally.count_on(file, "solved runs audited");
     tally.hold("the code on a solved run", &code, &ACCEPTED);
     tally.hold("the answer on a solved run", &answer, &[i64::from(least_cost), 0, 0]);
 }
@@ -87,21 +93,37 @@ fn compare_draft(random: &mut Random, tally: &mut Tally, draft: &Draft) {
     compare(random, tally, &broken, &own);
 }
 
+/// Compares audits of the stick with one thing wrong for each question, in each total, a few times with
+/// tables of its run.
+fn compare_refused(random: &mut Random, tally: &mut Tally) {
+    for draft in FOURTHS.map(|fourth| with_total(&stick(), fourth)) {
+        let problem = Problem::read(&draft.bytes()).expect("whole");
+        let (own, _) = Proposal::of_run(&problem, MOST_ROUNDS);
+        for (refusal, file) in one_wrong_each(&draft) {
+            tally.case = format!("the stick in {}, wrong for {refusal:?}", draft.total());
+            (0..TIMES).for_each(|_| compare(random, tally, &file, &own));
+        }
+    }
+}
+
 /// The draft behind the file of a number: the paper's, those at the limits, chains, and made ones.
 fn draft_of(random: &mut Random, number: u64) -> Draft {
     let with_goal = random.once_in(2);
+    let fourth = FOURTHS[number as usize % FOURTHS.len()];
     match number {
-        0..=19 => file_p(),
-        20..=29 => one_state(),
-        30..=39 => at_limits(random, with_goal, 5_000),
-        40..=44 => deep_chain(random, MAX_STATES, 8, with_goal),
+        0..=19 => with_total(&file_p(), fourth),
+        20..=29 => one_state().with_fourth(fourth),
+        30..=39 => at_limits(random, with_goal, 5_000, fourth),
+        40..=44 => deep_chain(random, MAX_STATES, 8, with_goal, fourth),
         _ => made(random),
     }
 }
 
 fn main() -> ExitCode {
     let (seed, files) = (argument(1, 1), argument(2, 4_000));
-    let mut tally = Tally::asking(&LEAST);
+    let tally = Tally::default().in_each_total(&LEAST);
+    let mut tally = tally.meeting(FILE_QUESTIONS, LEAST_OF_FILES).meeting(15..=19, LEAST_MET);
+    compare_refused(&mut Random::new(seed), &mut tally);
     for number in 0..files {
         let mut random = Random::of_file(seed, number);
         let draft = draft_of(&mut random, number);
@@ -109,5 +131,5 @@ fn main() -> ExitCode {
         tally.count("files");
         compare_draft(&mut random, &mut tally, &draft);
     }
-    tally.close(15..=19, LEAST_MET)
+    tally.close()
 }

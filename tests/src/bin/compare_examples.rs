@@ -6,18 +6,19 @@
 //! `compare_examples`
 
 use comparisons::audit::{audit_file, Verdict};
-use comparisons::damage::damaged;
-use comparisons::examples::{path, stick, TEXTS};
+use comparisons::damage::{damaged, one_wrong_each};
+use comparisons::examples::{file_p, path, stick, with_total, TEXTS};
+use comparisons::extremes::{at_limits, deep_chain};
 use comparisons::follower::{open, report, Followed, Record};
 use comparisons::harness::Tally;
-use comparisons::limits::{GIVE_UP, PLAN_ROUNDS};
+use comparisons::limits::{GIVE_UP, MAX_STATES, PLAN_ROUNDS};
 use comparisons::listing::{audit_line, plan_lines, planned};
-use comparisons::made::{at_limits, deep_chain};
-use comparisons::problem::Problem;
+use comparisons::problem::{Problem, FILE_QUESTIONS};
 use comparisons::programs::{run_to_end, said, start, Folder, Said};
 use comparisons::random::Random;
 use comparisons::set_form::set_form;
 use comparisons::solver::{solve, Answer, OwnedTables};
+use comparisons::totals::{Fourth, FOURTHS};
 use comparisons::variants::SAME;
 use comparisons::wide::{wide, ORDERS};
 use comparisons::written::Written;
@@ -62,10 +63,13 @@ const SET_FORM: Example = Example {
 };
 /// The room that the examples have for a file, in bytes.
 const FILE_ROOM: usize = 65_536;
-/// Damaged files whose set form is asked for.
-const DAMAGED: usize = 120;
-/// How many there must be of these; and each question from 1 to 11 must be met.
-const LEAST: [(&str, u64); 2] = [("set forms written", 20), ("set forms shorter than the file", 8)];
+/// Damaged files whose set form is asked for, in each total.
+const DAMAGED: usize = 24;
+/// How often each of the questions 1 to 11 must be met.
+const LEAST_MET: u64 = 5;
+/// How many there must be of these, in each total their share.
+const LEAST: [(&str, u64); 2] =
+    [("set forms written", 80), ("set forms shorter than the file", 40)];
 /// The reports that `README.md` shows on P.
 const SHOWN_REPORTS: [u64; 3] = [0, 0, 0];
 
@@ -177,6 +181,10 @@ fn compare_follows(tally: &mut Tally, folder: &Folder) {
     compare_follow(tally, folder, "P", p, &[u64::MAX, 0, 1, 0]);
     compare_follow(tally, folder, "one-state", one_state, &[1, 0, 0]);
     compare_follow(tally, folder, "stick", stick, &[1, 0, 1, 0, 1, 0, 0, 0]);
+    for fourth in FOURTHS {
+        let p = with_total(&file_p(), fourth).bytes();
+        compare_follow(tally, folder, "P in another total", &p, &[2, 0, 0, 0]);
+    }
     compare_follow(tally, folder, "an empty file", &[], &[0]);
 }
 
@@ -185,14 +193,14 @@ fn compare_follows(tally: &mut Tally, folder: &Folder) {
 fn form_output(tally: &mut Tally, file: &[u8]) -> (Vec<u8>, Vec<u8>, i32) {
     match set_form(file) {
         Ok(form) => {
-            tally.count("set forms written");
+            tally.count_on(file, "set forms written");
             if form.len() < file.len() {
-                tally.count("set forms shorter than the file");
+                tally.count_on(file, "set forms shorter than the file");
             }
             (form, Vec::new(), 0)
         }
         Err(no) => {
-            tally.meet(no.question);
+            tally.meet(no.question, file);
             let said = format!("refused, question {}, place {}\n", no.question, no.place);
             (Vec::new(), said.into_bytes(), 1)
         }
@@ -211,30 +219,42 @@ fn compare_form(tally: &mut Tally, folder: &Folder, case: &str, file: &[u8]) {
     tally.hold("its messages and status", &(stderr, status.code()), &(said, Some(code)));
 }
 
-/// Writes the set forms of the examples, of the stick written in other ways, of rows with as many
-/// outcomes as there may be in every order, and of the largest file; and meets refusals: of damaged
-/// sticks, of an empty file, and of one that is longer than the example's room.
+/// Writes the set forms, in a total, of the stick written in other ways, of rows with as many outcomes
+/// as there may be in every order, and of the largest file; and meets refusals: of the stick with one
+/// thing wrong for each question, and of damaged sticks.
+fn compare_forms_in(tally: &mut Tally, folder: &Folder, random: &mut Random, fourth: Fourth) {
+    let stick = with_total(&stick(), fourth);
+    for change in &SAME {
+        let mut draft = stick.clone();
+        (change.make)(random, &mut draft);
+        compare_form(tally, folder, &format!("the stick, {}", change.name), &draft.bytes());
+    }
+    for order in ORDERS {
+        for states in [3, 300] {
+            let case = format!("wide rows, {states} states, {order:?}");
+            compare_form(tally, folder, &case, &wide(random, states, order, fourth).bytes());
+        }
+    }
+    compare_form(tally, folder, "the limits", &at_limits(random, true, 5_000, fourth).bytes());
+    for (refusal, file) in one_wrong_each(&stick) {
+        compare_form(tally, folder, &format!("the stick wrong for {refusal:?}"), &file);
+    }
+    for number in 0..DAMAGED {
+        let file = damaged(random, &stick);
+        compare_form(tally, folder, &format!("damaged stick {number}"), &file);
+    }
+}
+
+/// Writes the set forms of the examples, and of much else in each total; and meets the refusals of an
+/// empty file, and of one that is longer than the example's room.
 fn compare_forms(tally: &mut Tally, folder: &Folder) {
     for (name, _) in TEXTS {
         let file = std::fs::read(path(name)).expect("an example");
         compare_form(tally, folder, name, &file);
     }
     let mut random = Random::new(1);
-    for change in &SAME {
-        let mut draft = stick();
-        (change.make)(&mut random, &mut draft);
-        compare_form(tally, folder, &format!("the stick, {}", change.name), &draft.bytes());
-    }
-    for order in ORDERS {
-        for states in [3, 300] {
-            let case = format!("wide rows, {states} states, {order:?}");
-            compare_form(tally, folder, &case, &wide(&mut random, states, order).bytes());
-        }
-    }
-    compare_form(tally, folder, "the limits", &at_limits(&mut random, true, 5_000).bytes());
-    for number in 0..DAMAGED {
-        let file = damaged(&mut random, &stick());
-        compare_form(tally, folder, &format!("damaged stick {number}"), &file);
+    for fourth in FOURTHS {
+        compare_forms_in(tally, folder, &mut random, fourth);
     }
     compare_form(tally, folder, "an empty file", &[]);
     let mut long = stick().bytes();
@@ -293,7 +313,7 @@ fn compare_pages(tally: &mut Tally) {
 }
 
 fn main() -> ExitCode {
-    let mut tally = Tally::asking(&LEAST);
+    let mut tally = Tally::default().in_each_total(&LEAST).meeting(FILE_QUESTIONS, LEAST_MET);
     let folder = Folder::new("compare-examples");
     for example in EXAMPLES.iter().chain([&FOLLOW, &SET_FORM]) {
         compile(&folder, example);
@@ -304,10 +324,22 @@ fn main() -> ExitCode {
     }
     let mut random = Random::new(1);
     compare(&mut tally, &folder, "an empty file", &[]);
-    compare(&mut tally, &folder, "the limits", &at_limits(&mut random, true, 5_000).bytes());
-    compare(&mut tally, &folder, "a chain", &deep_chain(&mut random, 1_024, 8, true).bytes());
+    for fourth in FOURTHS {
+        let limits = at_limits(&mut random, true, 5_000, fourth).bytes();
+        let chain = deep_chain(&mut random, MAX_STATES, 8, true, fourth).bytes();
+        compare(&mut tally, &folder, "P in another total", &with_total(&file_p(), fourth).bytes());
+        compare(
+            &mut tally,
+            &folder,
+            "the stick in another total",
+            &with_total(&stick(), fourth).bytes(),
+        );
+        compare(&mut tally, &folder, "no total", &file_p().with_fourth(Some(999)).bytes());
+        compare(&mut tally, &folder, "the limits", &limits);
+        compare(&mut tally, &folder, "a chain", &chain);
+    }
     compare_follows(&mut tally, &folder);
     compare_forms(&mut tally, &folder);
     compare_pages(&mut tally);
-    tally.close(1..=11, 1)
+    tally.close()
 }

@@ -1,14 +1,15 @@
 //! Compares the product's follower with `follower.rs`: what openings and reports return, their
 //! answers and the record, and holds that the tables stay as they were lent. It goes along shifts on
-//! accepted plans, where the record is held against the list of accepted reports as well; over
-//! records made up freely; and over files and tables that the audit's questions refuse.
+//! accepted plans in every total, where the record is held against the list of accepted reports as
+//! well; over records made up freely; and over files and tables that the audit's questions refuse.
 //!
 //! `compare_following [seed] [files]`
 
 use comparisons::audit::{pick_of, reached_states, Pick};
-use comparisons::damage::damaged;
+use comparisons::damage::{damaged, one_wrong_each};
 use comparisons::encode::Draft;
-use comparisons::examples::{file_p, one_state, p_with_penalty, stick};
+use comparisons::examples::{file_p, one_state, p_with_penalty, stick, with_total};
+use comparisons::extremes::{at_limits, deep_chain};
 use comparisons::follower::{self, outcome_number, pick_at, reasons, Followed, Reason, Record};
 use comparisons::harness::{answer_length, argument, noise, Tally};
 use comparisons::library::{
@@ -16,10 +17,11 @@ use comparisons::library::{
 };
 use comparisons::limits::*;
 use comparisons::loads::LOADS;
-use comparisons::made::{at_limits, deep_chain, made};
-use comparisons::problem::{Outcome, Problem};
+use comparisons::made::made;
+use comparisons::problem::{Outcome, Problem, FILE_QUESTIONS};
 use comparisons::proposal::{change_pick, Proposal};
 use comparisons::random::Random;
+use comparisons::totals::{any_fourth, FOURTHS};
 use std::process::ExitCode;
 
 /// A file whose run takes more rounds than this is not followed.
@@ -36,11 +38,15 @@ const RECORDS: usize = 12;
 const REPORTS_EACH: usize = 3;
 /// Changed tables tried on each file.
 const CHANGES: usize = 4;
+/// Openings and reports on each file that is wrong for a question.
+const TIMES: usize = 5;
 /// Outcomes that no row has.
 const FAR_OUT: [u64; 6] = [255, 256, 65_536, 1 << 32, 1 << 63, u64::MAX];
 /// How often each of the questions 15 to 22 must be met.
 const LEAST_MET: u64 = 200;
-/// How many there must be of other things.
+/// How often each of the questions 1 to 11 must be met.
+const LEAST_OF_FILES: u64 = 50;
+/// How many there must be of other things, in each total its share.
 const LEAST: [(&str, u64); 9] = [
     ("shifts", 5_000),
     ("shifts of 20 moves or more", 500),
@@ -125,9 +131,9 @@ fn compare(
     };
     let (asked_code, asked_answer) = asked_of_lent(code, answer, &given_answer);
     match asked_code {
-        DONE => tally.count(name_of_done(call, &asked[1])),
+        DONE => tally.count_on(plan.file, name_of_done(call, &asked[1])),
         REFUSED => count_refused(tally, plan, call, record, answer[0] as u64),
-        _ => tally.count("answers lent too short"),
+        _ => tally.count_on(plan.file, "answers lent too short"),
     }
     let mut tables = plan.tables.clone();
     let given_code = product(plan.file, &mut tables, call, &mut given[1], &mut given_answer);
@@ -153,14 +159,16 @@ fn name_of_done(call: Call, left: &Record) -> &'static str {
 
 /// Counts a refusal by its question, and a report's by whose question it is.
 fn count_refused(tally: &mut Tally, plan: &Plan, call: Call, record: &Record, question: u64) {
-    tally.meet(question);
+    tally.meet(question, plan.file);
     match call {
-        Call::Open => tally.count("openings refused"),
-        Call::Report(outcome) if question >= 20 => count_reasons(tally, plan, outcome, record),
+        Call::Open => tally.count_on(plan.file, "openings refused"),
+        Call::Report(outcome) if (20..=22).contains(&question) => {
+            count_reasons(tally, plan, outcome, record);
+        }
         Call::Report(_) => {
-            tally.count("reports refused by the audit's questions");
+            tally.count_on(plan.file, "reports refused by the audit's questions");
             if record.mark != 0 {
-                tally.count("the audit's questions before a set mark");
+                tally.count_on(plan.file, "the audit's questions before a set mark");
             }
         }
     }
@@ -172,11 +180,11 @@ fn count_reasons(tally: &mut Tally, plan: &Plan, outcome: u64, record: &Record) 
     let hold = reasons(&problem, &plan.tables.picks, outcome, record);
     let fails = |question: u64| hold.iter().any(|reason| reason.question() == question);
     for (_, name, _) in REASONS.iter().filter(|(reason, ..)| hold[0] == *reason) {
-        tally.count(name);
+        tally.count_on(plan.file, name);
     }
     for ([met, later], name, _) in ORDERS {
         if hold[0].question() == met && fails(later) {
-            tally.count(name);
+            tally.count_on(plan.file, name);
         }
     }
 }
@@ -274,9 +282,9 @@ fn compare_shift(random: &mut Random, tally: &mut Tally, plan: &Plan, problem: &
             break;
         }
     }
-    tally.count("shifts");
+    tally.count_on(plan.file, "shifts");
     if accepted.len() >= MANY_MOVES {
-        tally.count("shifts of 20 moves or more");
+        tally.count_on(plan.file, "shifts of 20 moves or more");
     }
 }
 
@@ -339,25 +347,41 @@ fn compare_draft(random: &mut Random, tally: &mut Tally, draft: &Draft) {
     compare_both(random, tally, &Plan { file: &broken, tables: &own }, &problem, &own);
 }
 
+/// Compares openings and reports on the stick with one thing wrong for each question, in each total, a
+/// few times with the tables of its run.
+fn compare_refused(random: &mut Random, tally: &mut Tally) {
+    for draft in FOURTHS.map(|fourth| with_total(&stick(), fourth)) {
+        let problem = Problem::read(&draft.bytes()).expect("whole");
+        let (own, _) = Proposal::of_run(&problem, MOST_ROUNDS);
+        for (refusal, file) in one_wrong_each(&draft) {
+            tally.case = format!("the stick in {}, wrong for {refusal:?}", draft.total());
+            let plan = Plan { file: &file, tables: &own };
+            (0..TIMES).for_each(|_| compare_both(random, tally, &plan, &problem, &own));
+        }
+    }
+}
+
 /// The draft behind the file of a number: the examples, P giving up, those at the limits, chains, the
 /// benchmark's loads, and made ones.
 fn draft_of(random: &mut Random, number: u64) -> Draft {
     let with_goal = random.once_in(2);
+    let fourth = FOURTHS[number as usize % FOURTHS.len()];
     match number {
-        0..=9 => file_p(),
-        10..=19 => p_with_penalty(100),
-        20..=29 => one_state(),
-        30..=39 => stick(),
-        40..=43 => at_limits(random, with_goal, 5_000),
-        44..=47 => deep_chain(random, MAX_STATES, 8, with_goal),
-        48..=67 => deep_chain(random, 32, MAX_IN_BYTE, with_goal),
-        68..=107 => {
+        0..=9 => with_total(&file_p(), fourth),
+        10..=19 => with_total(&p_with_penalty(100), fourth),
+        20..=29 => with_total(&one_state(), fourth),
+        30..=39 => with_total(&stick(), fourth),
+        40..=44 => at_limits(random, with_goal, 5_000, fourth),
+        45..=49 => deep_chain(random, MAX_STATES, 8, with_goal, fourth),
+        50..=69 => deep_chain(random, 32, MAX_IN_BYTE, with_goal, fourth),
+        70..=109 => {
             let states = random.pick(&[16, 16, 64, 256]);
-            LOADS[random.below(LOADS.len())].draft(random, states)
+            LOADS[random.below(LOADS.len())].draft(random, states, fourth)
         }
-        108..=507 => {
+        110..=509 => {
             let (states, outcomes) = (30 + random.below(60), 1 + random.below(20));
-            deep_chain(random, states, outcomes, true)
+            let fourth = any_fourth(random);
+            deep_chain(random, states, outcomes, true, fourth)
         }
         _ => made(random),
     }
@@ -368,7 +392,9 @@ fn main() -> ExitCode {
     let by_reason = REASONS.iter().map(|&(_, name, least)| (name, least));
     let by_order = ORDERS.iter().map(|&(_, name, least)| (name, least));
     let least: Vec<_> = LEAST.into_iter().chain(by_reason).chain(by_order).collect();
-    let mut tally = Tally::asking(&least);
+    let tally = Tally::default().in_each_total(&least);
+    let mut tally = tally.meeting(FILE_QUESTIONS, LEAST_OF_FILES).meeting(15..=22, LEAST_MET);
+    compare_refused(&mut Random::new(seed), &mut tally);
     for number in 0..files {
         let mut random = Random::of_file(seed, number);
         let draft = draft_of(&mut random, number);
@@ -376,5 +402,5 @@ fn main() -> ExitCode {
         tally.count("files");
         compare_draft(&mut random, &mut tally, &draft);
     }
-    tally.close(15..=22, LEAST_MET)
+    tally.close()
 }

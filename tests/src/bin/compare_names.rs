@@ -4,9 +4,9 @@
 //! `compare_names [plan] [audit] [sheet]`
 
 use comparisons::examples::file_p;
+use comparisons::extremes::at_limits;
 use comparisons::harness::Tally;
 use comparisons::listing::{plan_lines, planned};
-use comparisons::made::at_limits;
 use comparisons::programs::{run, said, start, Folder, Program, Said};
 use comparisons::random::Random;
 use comparisons::table_files::{picks_bytes, values_bytes};
@@ -95,7 +95,7 @@ impl Room {
 
     /// A disk that takes no table, or only the front of one.
     fn compare_full_disk(&mut self) {
-        let file = at_limits(&mut Random::new(0), true, 5_000).bytes();
+        let file = at_limits(&mut Random::new(0), true, 5_000, None).bytes();
         for blocks in ["0", "1"] {
             self.tally.case = format!("a disk with {blocks} blocks left");
             self.tally.count("full disks");
@@ -236,5 +236,5 @@ fn main() -> ExitCode {
     room.compare_empty();
     room.compare_unreadable_input();
     room.compare_counts();
-    room.tally.close(0..=0, 0)
+    room.tally.close()
 }

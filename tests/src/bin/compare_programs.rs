@@ -1,34 +1,41 @@
 //! Compares the day of the programs, end to end, with the solver and the audit written apart: `plan
 //! VALUES PICKS` prints and writes the run, `audit FILE VALUES PICKS` prints the verdict on what was
-//! written, on values a tick higher, and on tables damaged in many ways.
+//! written, on values a tick higher, and on tables damaged in many ways; in every total.
 //!
 //! `compare_programs [plan] [audit] [seed] [files]`
 
 use comparisons::audit::{audit_file, Verdict};
-use comparisons::damage::damaged;
+use comparisons::damage::{damaged, one_wrong_each};
 use comparisons::encode::Draft;
-use comparisons::examples::{file_p, one_state, stick};
+use comparisons::examples::{file_p, one_state, stick, with_total};
+use comparisons::extremes::{at_limits, deep_chain, endless};
 use comparisons::harness::{argument, noise, Tally};
 use comparisons::limits::{GIVE_UP, MAX_STATES, NO_PICK};
-use comparisons::listing::{audit_line, ends_within, planned, remainders_above_0, Planned};
-use comparisons::made::{at_limits, deep_chain, endless, made};
+use comparisons::listing::{audit_line, ends_within, planned, remainders_from, Planned};
+use comparisons::made::made;
+use comparisons::problem::FILE_QUESTIONS;
 use comparisons::programs::{Folder, Program, Said};
 use comparisons::random::Random;
 use comparisons::solver::OwnedTables;
 use comparisons::table_files::{picks_bytes, picks_of, values_bytes, values_of};
+use comparisons::totals::FOURTHS;
 use std::process::ExitCode;
 
 /// A made file whose run takes more rounds than this is left out.
 const MOST_ROUNDS: u64 = 20_000;
+/// The number of the first made file.
+const FIRST_MADE: u64 = 20;
 /// Damaged tables tried on each file.
 const DAMAGES: usize = 6;
 /// How often each of the questions 15 to 19 must be met.
 const LEAST_MET: u64 = 20;
-/// How many there must be of each answer, and of remainders above 0 in a plan's lines; `refused` are
-/// the audits that refuse.
+/// How often each of the questions 1 to 11 must be met.
+const LEAST_OF_FILES: u64 = 5;
+/// How many there must be of each answer, and of remainders above 0 in a plan's lines, in each total its
+/// share; `refused` are the audits that refuse.
 const LEAST: [(&str, u64); 7] = [
     ("plans, solved", 120),
-    ("plans, spent", 1),
+    ("plans, spent", 5),
     ("plans, refused", 25),
     ("remainders above 0, solved", 900),
     ("remainders above 0, spent", 2),
@@ -81,8 +88,8 @@ impl Day {
         }
         let verdict = audit_file(file, &values_of(&tables[0]), &picks_of(&tables[1]));
         match verdict {
-            Verdict::Accepted { .. } => self.tally.count("audits, accepted"),
-            Verdict::Refused { question, .. } => self.tally.meet(question),
+            Verdict::Accepted { .. } => self.tally.count_on(file, "audits, accepted"),
+            Verdict::Refused { question, .. } => self.tally.meet(question, file),
         }
         let said = self.audit.run(&self.folder, &["file", NAMES[0], NAMES[1]], &[]);
         let line = Said::only(audit_line(verdict));
@@ -97,22 +104,22 @@ impl Day {
         self.folder.put("file", Some(file));
         let before = NAMES.map(|_| random.once_in(2).then(|| any_bytes(random)));
         let Planned { lines, tables: Some(tables) } = self.plan(file, &before) else {
-            self.tally.count("plans, refused");
+            self.tally.count_on(file, "plans, refused");
             self.audit(file, &[any_bytes(random), any_bytes(random)]);
             return;
         };
         let written = NAMES.map(|name| self.folder.get(name).unwrap_or_default());
         let verdict = self.audit(file, &written);
-        let remainders = remainders_above_0(&lines);
+        let remainders = remainders_from(1, &lines);
         if let Some(solved) = lines.lines().next().and_then(|line| line.strip_prefix("solved ")) {
             let least_cost = solved.rsplit(' ').next().unwrap_or_default();
-            self.tally.count("plans, solved");
-            self.tally.count_all("remainders above 0, solved", remainders);
+            self.tally.count_on(file, "plans, solved");
+            self.tally.count_all_on(file, "remainders above 0, solved", remainders);
             let asked = format!("accepted {least_cost}\n");
             self.tally.hold("the verdict on a solved run", &audit_line(verdict), &asked);
         } else {
-            self.tally.count("plans, spent");
-            self.tally.count_all("remainders above 0, spent", remainders);
+            self.tally.count_on(file, "plans, spent");
+            self.tally.count_all_on(file, "remainders above 0, spent", remainders);
         }
         self.raise_a_tick(random, file, &tables);
         for _ in 0..DAMAGES {
@@ -156,7 +163,7 @@ impl Day {
 
     /// Inputs far longer than a file or a table that could be meant, and empty ones.
     fn compare_lengths(&mut self, random: &mut Random) {
-        for (case, draft) in [("P", file_p()), ("limits", at_limits(random, true, 5_000))] {
+        for (case, draft) in [("P", file_p()), ("limits", at_limits(random, true, 5_000, None))] {
             let file = draft.bytes();
             let tables = planned(&file).tables.expect("not refused");
             let tables = [values_bytes(&tables.values), picks_bytes(&tables.picks)];
@@ -172,6 +179,22 @@ impl Day {
         }
         for (case, file) in [("empty", vec![]), ("noise", noise(random, VERY_LONG))] {
             self.compare(random, case, &file);
+        }
+    }
+
+    /// The examples in each total, and a run that is spent; and the stick with one thing wrong for each
+    /// question of the file.
+    fn compare_totals(&mut self, random: &mut Random) {
+        for fourth in FOURTHS {
+            let [p, one_state, stick] =
+                [file_p(), one_state(), stick()].map(|draft| with_total(&draft, fourth));
+            for draft in [&p, &one_state, &stick, &endless(fourth)] {
+                self.compare(random, &format!("fourth setting {fourth:?}"), &draft.bytes());
+            }
+            for (refusal, file) in one_wrong_each(&stick) {
+                let case = format!("fourth setting {fourth:?}, wrong for {refusal:?}");
+                self.compare(random, &case, &file);
+            }
         }
     }
 
@@ -240,13 +263,12 @@ fn damage_bytes(random: &mut Random, bytes: &mut Vec<u8>) {
 
 /// The draft behind the file of a number: the examples, those at the limits, and made ones.
 fn draft_of(random: &mut Random, number: u64) -> Draft {
+    let fourth = FOURTHS[number as usize % FOURTHS.len()];
     match number {
         0..=4 => file_p(),
-        5..=6 => one_state(),
-        7..=11 => stick(),
-        12..=14 => at_limits(random, number == 12, 5_000),
-        15..=16 => deep_chain(random, MAX_STATES, 8, number == 15),
-        17 => endless(),
+        5..=9 => stick(),
+        10..=14 => at_limits(random, number.is_multiple_of(2), 5_000, fourth),
+        15..=19 => deep_chain(random, MAX_STATES, 8, number.is_multiple_of(2), fourth),
         _ => made(random),
     }
 }
@@ -255,17 +277,21 @@ fn main() -> ExitCode {
     let (plan, audit) = (Program::named(1, "plan"), Program::named(2, "audit"));
     let (seed, files) = (argument(3, 1), argument(4, 300));
     let folder = Folder::new("compare-programs");
-    let mut day = Day { plan, audit, folder, tally: Tally::asking(&LEAST) };
+    let tally = Tally::default().in_each_total(&LEAST);
+    let tally = tally.meeting(FILE_QUESTIONS, LEAST_OF_FILES).meeting(15..=19, LEAST_MET);
+    let mut day = Day { plan, audit, folder, tally };
     day.compare_p();
     day.compare_lengths(&mut Random::new(seed));
+    day.compare_totals(&mut Random::new(seed));
     for number in 0..files {
         let mut random = Random::of_file(seed, number);
         let draft = draft_of(&mut random, number);
-        let broken = number > 17 && random.once_in(5);
+        let is_made = number >= FIRST_MADE;
+        let broken = is_made && random.once_in(5);
         let file = if broken { damaged(&mut random, &draft) } else { draft.bytes() };
-        if number <= 17 || ends_within(&file, MOST_ROUNDS) {
+        if !is_made || ends_within(&file, MOST_ROUNDS) {
             day.compare(&mut random, &format!("seed {seed}, file {number}"), &file);
         }
     }
-    day.tally.close(15..=19, LEAST_MET)
+    day.tally.close()
 }

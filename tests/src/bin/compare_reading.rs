@@ -1,22 +1,24 @@
 //! Compares the product's reading of problem files with `problem.rs`: the answer to questions 1 to
-//! 11 and the stretch of a state's rows, on files whole and damaged.
+//! 11, 24 among them, and the stretch of a state's rows, on files whole and damaged, in every total.
 //!
 //! `compare_reading [seed] [files]`
 
-use comparisons::damage::damaged;
+use comparisons::damage::{damaged, one_wrong_each, NO_TOTALS};
 use comparisons::encode::Draft;
-use comparisons::examples::{file_p, one_state};
+use comparisons::examples::{file_p, one_state, stick, with_total};
+use comparisons::extremes::{at_limits, deep_chain};
 use comparisons::harness::{argument, noise, Tally};
 use comparisons::library::{asked_of_check, asked_of_lent, check, rows, ANSWER, PASSED};
 use comparisons::limits::{MAX_PENALTY, MAX_STATES, ROW_BYTES};
-use comparisons::made::{at_limits, deep_chain, made};
-use comparisons::problem::{lookup, Problem};
+use comparisons::made::made;
+use comparisons::problem::{lookup, Problem, FILE_QUESTIONS};
 use comparisons::random::Random;
+use comparisons::totals::FOURTHS;
 use std::process::ExitCode;
 
 /// How often each of the questions 1 to 11 must be met.
-const LEAST_MET: u64 = 50;
-/// How many there must be of other things.
+const LEAST_MET: u64 = 300;
+/// How many there must be of other things, in each total its share.
 const LEAST: [(&str, u64); 3] =
     [("passed", 4_000), ("refused", 10_000), ("stretches, with rows", 6_000)];
 
@@ -24,8 +26,8 @@ const LEAST: [(&str, u64); 3] =
 fn compare_check(random: &mut Random, tally: &mut Tally, file: &[u8]) {
     let (code, answer) = asked_of_check(file);
     match code {
-        PASSED => tally.count("passed"),
-        _ => tally.meet(answer[0]),
+        PASSED => tally.count_on(file, "passed"),
+        _ => tally.meet(answer[0], file),
     }
     for length in [random.below(ANSWER), ANSWER, ANSWER + 1 + random.below(2)] {
         let mut given: Vec<u64> = noise(random, length);
@@ -53,43 +55,65 @@ fn compare_rows(random: &mut Random, tally: &mut Tally, file: &[u8]) {
         let given_length = rows(file, state, &mut given);
         tally.hold("the stretch's length", &given_length, &(stretch.len() as u64));
         tally.hold("the stretch", &given, &asked);
-        tally.count(if stretch.is_empty() { "stretches, empty" } else { "stretches, with rows" });
+        let empty = stretch.is_empty();
+        tally.count_on(file, if empty { "stretches, empty" } else { "stretches, with rows" });
     }
+}
+
+/// Compares all that is called on a file.
+fn compare(random: &mut Random, tally: &mut Tally, file: &[u8]) {
+    compare_check(random, tally, file);
+    compare_rows(random, tally, file);
 }
 
 /// The draft behind the file of a number: the paper's, those at the limits, and made ones.
 fn draft_of(random: &mut Random, number: u64) -> Draft {
+    let fourth = FOURTHS[number as usize / 600 % FOURTHS.len()];
     match number % 600 {
-        0 => file_p(),
-        1 => one_state(),
+        0 => with_total(&file_p(), fourth),
+        1 => one_state().with_fourth(fourth),
         2 => {
             let with_goal = random.once_in(2);
-            at_limits(random, with_goal, MAX_PENALTY)
+            at_limits(random, with_goal, MAX_PENALTY, fourth)
         }
-        3 => deep_chain(random, MAX_STATES, 8, true),
+        3 => deep_chain(random, MAX_STATES, 8, true, fourth),
         _ => made(random),
     }
 }
 
-/// Every cut of file P, and P lengthened: any slice length from 0 bytes.
-fn compare_cuts(random: &mut Random, tally: &mut Tally) {
-    let whole = file_p().bytes();
+/// Every cut of a file, and the file lengthened: any slice length from 0 bytes.
+fn compare_cuts(random: &mut Random, tally: &mut Tally, name: &str, whole: Vec<u8>) {
     for length in 0..=whole.len() {
-        tally.case = format!("P cut to {length} bytes");
-        compare_check(random, tally, &whole[..length]);
-        compare_rows(random, tally, &whole[..length]);
+        tally.case = format!("{name} cut to {length} bytes");
+        compare(random, tally, &whole[..length]);
     }
     let mut long = whole;
     long.resize(200_000, 0);
-    tally.case = "P lengthened to 200,000 bytes".into();
-    compare_check(random, tally, &long);
-    compare_rows(random, tally, &long);
+    tally.case = format!("{name} lengthened to 200,000 bytes");
+    compare(random, tally, &long);
+}
+
+/// P in each total: cut everywhere, also inside the fourth setting; and P and the stick with one thing
+/// wrong for each question.
+fn compare_totals(random: &mut Random, tally: &mut Tally) {
+    for fourth in FOURTHS {
+        let [p, stick] = [file_p(), stick()].map(|draft| with_total(&draft, fourth));
+        compare_cuts(random, tally, &format!("P with fourth setting {fourth:?}"), p.bytes());
+        for (refusal, file) in [&p, &stick].into_iter().flat_map(one_wrong_each) {
+            tally.case = format!("fourth setting {fourth:?}, wrong for {refusal:?}");
+            compare(random, tally, &file);
+        }
+        for no_total in NO_TOTALS {
+            tally.case = format!("P's rows with fourth setting {fourth:?}, the fourth {no_total}");
+            compare(random, tally, &p.clone().with_fourth(Some(no_total)).bytes());
+        }
+    }
 }
 
 fn main() -> ExitCode {
     let (seed, files) = (argument(1, 1), argument(2, 30_000));
-    let mut tally = Tally::asking(&LEAST);
-    compare_cuts(&mut Random::new(seed), &mut tally);
+    let mut tally = Tally::default().in_each_total(&LEAST).meeting(FILE_QUESTIONS, LEAST_MET);
+    compare_totals(&mut Random::new(seed), &mut tally);
     for number in 0..files {
         let mut random = Random::of_file(seed, number);
         let draft = draft_of(&mut random, number);
@@ -97,8 +121,7 @@ fn main() -> ExitCode {
         let file = if whole { draft.bytes() } else { damaged(&mut random, &draft) };
         tally.case = format!("seed {seed}, file {number}, {} bytes", file.len());
         tally.count("files");
-        compare_check(&mut random, &mut tally, &file);
-        compare_rows(&mut random, &mut tally, &file);
+        compare(&mut random, &mut tally, &file);
     }
-    tally.close(1..=11, LEAST_MET)
+    tally.close()
 }

@@ -1,23 +1,25 @@
 //! Compares the product's runs with `solver.rs`: the answer and every entry of the four lent tables,
-//! at budgets from 0 to the largest number, on files whole and damaged. Where a run is solved the
-//! product's audit of the tables as they were left must accept them, with the run's C. All of it
-//! runs on a thread with a stack of 512 KiB.
+//! at budgets from 0 to the largest number, on files whole and damaged, in every total. Where a run is
+//! solved the product's audit of the tables as they were left must accept them, with the run's C. All
+//! of it runs on a thread with a stack of 512 KiB.
 //!
 //! `compare_solving [seed] [files]`
 
-use comparisons::damage::damaged;
+use comparisons::damage::{damaged, one_wrong_each};
 use comparisons::encode::Draft;
-use comparisons::examples::{file_p, one_state};
+use comparisons::examples::{file_p, one_state, stick, with_total};
+use comparisons::extremes::{at_limits, deep_chain};
 use comparisons::harness::{answer_length, argument, noise, Tally};
 use comparisons::library::{
     self, asked_of_lent, asked_of_run, ACCEPTED, ANSWER, REFUSED, SOLVED, SPENT, TOO_SHORT,
 };
 use comparisons::limits::*;
-use comparisons::made::{at_limits, deep_chain, made};
+use comparisons::made::made;
 use comparisons::plain::{plain_run, Ties};
-use comparisons::problem::Problem;
+use comparisons::problem::{Problem, FILE_QUESTIONS};
 use comparisons::random::Random;
 use comparisons::solver::{solve, solve_file, Answer, OwnedTables};
+use comparisons::totals::FOURTHS;
 use std::process::ExitCode;
 
 /// The stack that the runs must do with.
@@ -30,13 +32,17 @@ const MANY_ROUNDS: u64 = 100;
 const LARGE: u64 = 1_000_000;
 /// How often questions 12 and 13 must be met.
 const LEAST_MET: u64 = 1_000;
-/// How many there must be of other things.
+/// How often each of the questions 1 to 11 must be met.
+const LEAST_OF_FILES: u64 = 50;
+/// How many there must be of other things, in each total its share.
 const LEAST: [(&str, u64); 4] = [
     ("solved", 19_000),
     ("solved after 100 rounds or more", 1_000),
     ("spent", 13_000),
     ("refused", 23_000),
 ];
+/// The number of the first made file.
+const FIRST_MADE: u64 = 35;
 /// Ties are counted on files of at most so many states.
 const TIE_STATES: usize = 10;
 /// The kinds of ties, and how many comparisons must meet each.
@@ -89,9 +95,9 @@ fn compare_run(
     };
     let (asked_code, asked_answer) = asked_of_lent(code, answer, &given_answer);
     match asked_code {
-        REFUSED => tally.meet(asked_answer[0]),
-        SOLVED => tally.count("solved"),
-        SPENT => tally.count("spent"),
+        REFUSED => tally.meet(asked_answer[0], file),
+        SOLVED => tally.count_on(file, "solved"),
+        SPENT => tally.count_on(file, "spent"),
         _ => tally.count("answers lent too short"),
     }
     let given_code = library::solve(file, budget, given.lend(), &mut given_answer);
@@ -103,19 +109,19 @@ fn compare_run(
     tally.hold("the walk list", &given.walk, &asked.walk);
     if asked_code == SOLVED {
         if asked_answer[0] >= MANY_ROUNDS {
-            tally.count("solved after 100 rounds or more");
+            tally.count_on(file, "solved after 100 rounds or more");
         }
         compare_own_audit(tally, file, &mut given, given_answer[2]);
     }
     matches!(asked_code, SOLVED | SPENT)
 }
 
-/// Counts the kinds of ties that the run of a problem at a budget meets.
-fn count_ties(tally: &mut Tally, problem: &Problem, budget: u64) {
+/// Counts the kinds of ties that the run of a file's problem at a budget meets.
+fn count_ties(tally: &mut Tally, file: &[u8], problem: &Problem, budget: u64) {
     let mut ties = Ties::default();
     plain_run(problem, budget, &mut OwnedTables::new(problem), &mut ties);
     for (name, ..) in TIES.iter().filter(|(_, _, count)| count(&ties) > 0) {
-        tally.count(name);
+        tally.count_on(file, name);
     }
 }
 
@@ -164,8 +170,20 @@ fn compare_file(random: &mut Random, tally: &mut Tally, file: &[u8]) {
         tally.case = format!("{case}, budget {budget}");
         let ran = compare_run(random, tally, file, budget, sizes);
         match &problem {
-            Some(problem) if ran && sizes[0] <= TIE_STATES => count_ties(tally, problem, budget),
+            Some(problem) if ran && sizes[0] <= TIE_STATES => {
+                count_ties(tally, file, problem, budget);
+            }
             _ => {}
+        }
+    }
+}
+
+/// Compares the runs on the stick with one thing wrong for each question, in each total.
+fn compare_refused(random: &mut Random, tally: &mut Tally) {
+    for fourth in FOURTHS {
+        for (refusal, file) in one_wrong_each(&with_total(&stick(), fourth)) {
+            tally.case = format!("the stick, fourth setting {fourth:?}, wrong for {refusal:?}");
+            compare_file(random, tally, &file);
         }
     }
 }
@@ -173,16 +191,17 @@ fn compare_file(random: &mut Random, tally: &mut Tally, file: &[u8]) {
 /// The draft behind the file of a number: the paper's, those at the limits, chains, and made ones.
 fn draft_of(random: &mut Random, number: u64) -> Draft {
     let with_goal = random.once_in(2);
+    let fourth = FOURTHS[number as usize % FOURTHS.len()];
     match number {
-        0 => file_p(),
-        1 => one_state(),
-        2..=9 => {
+        0..=4 => with_total(&file_p(), fourth),
+        5..=9 => one_state().with_fourth(fourth),
+        10..=19 => {
             let penalty = random.pick(&[1, 900, 5_000, MAX_PENALTY]);
-            at_limits(random, with_goal, penalty)
+            at_limits(random, with_goal, penalty, fourth)
         }
-        10..=15 => deep_chain(random, MAX_STATES, 8, with_goal),
-        16..=19 => deep_chain(random, MAX_STATES, 1, with_goal),
-        20..=23 => deep_chain(random, 32, MAX_IN_BYTE, with_goal),
+        20..=24 => deep_chain(random, MAX_STATES, 8, with_goal, fourth),
+        25..=29 => deep_chain(random, MAX_STATES, 1, with_goal, fourth),
+        30..=34 => deep_chain(random, 32, MAX_IN_BYTE, with_goal, fourth),
         _ => made(random),
     }
 }
@@ -190,16 +209,19 @@ fn draft_of(random: &mut Random, number: u64) -> Draft {
 /// Compares the files of a seed.
 fn compare(seed: u64, files: u64) -> ExitCode {
     let ties = TIES.iter().map(|&(name, least, _)| (name, least));
-    let mut tally = Tally::asking(&LEAST.into_iter().chain(ties).collect::<Vec<_>>());
+    let least: Vec<_> = LEAST.into_iter().chain(ties).collect();
+    let tally = Tally::default().in_each_total(&least);
+    let mut tally = tally.meeting(FILE_QUESTIONS, LEAST_OF_FILES).meeting(12..=13, LEAST_MET);
+    compare_refused(&mut Random::new(seed), &mut tally);
     for number in 0..files {
         let mut random = Random::of_file(seed, number);
         let draft = draft_of(&mut random, number);
-        let broken = number >= 24 && random.once_in(10);
+        let broken = number >= FIRST_MADE && random.once_in(10);
         let file = if broken { damaged(&mut random, &draft) } else { draft.bytes() };
         tally.case = format!("seed {seed}, file {number}, {} bytes", file.len());
         compare_file(&mut random, &mut tally, &file);
     }
-    tally.close(12..=13, LEAST_MET)
+    tally.close()
 }
 
 fn main() -> ExitCode {

@@ -5,11 +5,11 @@
 //! `compare_status [plan] [audit] [sheet]`, the start scripts
 
 use comparisons::encode::Draft;
-use comparisons::examples::{file_p, stick};
+use comparisons::examples::{file_p, stick, with_total};
+use comparisons::extremes::{at_limits, deep_chain, endless};
 use comparisons::harness::Tally;
 use comparisons::limits::MAX_STATES;
 use comparisons::listing::{plan_lines, planned};
-use comparisons::made::{at_limits, deep_chain, endless};
 use comparisons::programs::{run_to_end, start, Folder, Program};
 use comparisons::random::Random;
 use comparisons::sheets::sheets;
@@ -134,12 +134,15 @@ impl Room {
     fn compare_plans(&mut self) {
         let random = &mut Random::new(1);
         let cut = |draft: Draft| draft.bytes()[1..].to_vec();
+        let in_100 = with_total(&stick(), Some(100));
         for (file, asked) in [
             (file_p().bytes(), 0),
             (stick().bytes(), 0),
-            (at_limits(random, true, 5_000).bytes(), 0),
-            (deep_chain(random, MAX_STATES, 8, true).bytes(), 0),
-            (endless().bytes(), 3),
+            (in_100.bytes(), 0),
+            (in_100.with_fourth(Some(99)).bytes(), 1),
+            (at_limits(random, true, 5_000, None).bytes(), 0),
+            (deep_chain(random, MAX_STATES, 8, true, Some(10_000)).bytes(), 0),
+            (endless(None).bytes(), 3),
             (vec![], 1),
             (cut(file_p()), 1),
             (vec![0; 5_000_000], 1),
@@ -153,7 +156,7 @@ impl Room {
     fn compare_unwritable(&mut self) {
         let bytes: Vec<u8> = (1..=255).filter(|&byte| byte != b'/').collect();
         let odd = OsString::from_vec([b"nowhere/", &bytes[..]].concat());
-        let file = deep_chain(&mut Random::new(2), MAX_STATES, 8, true).bytes();
+        let file = deep_chain(&mut Random::new(2), MAX_STATES, 8, true, None).bytes();
         for name in [OsStr::new("nowhere/new"), OsStr::new("."), OsStr::new(""), &odd] {
             self.compare(|r| &r.plan, WHOLE, &[name, OsStr::new("new")], &file_p().bytes(), 2);
             self.compare(|r| &r.plan, WHOLE, &[OsStr::new("new"), name], &file, 2);
@@ -285,5 +288,5 @@ fn main() -> ExitCode {
     room.compare_ways();
     room.compare_unread();
     room.compare_builds();
-    room.tally.close(0..=0, 0)
+    room.tally.close()
 }

@@ -1,19 +1,21 @@
 //! Measures the stack that the product needs at the limits: 1,024 states one below the other, 4,096
-//! rows, 8,192 outcomes. The library runs on threads with smaller and smaller stacks, each in a
-//! process of its own; the programs run under `ulimit -s`, and under `ulimit -v` for all their memory.
+//! rows, 8,192 outcomes, four settings. The library runs on threads with smaller and smaller stacks,
+//! each in a process of its own; the programs run under `ulimit -s`, and under `ulimit -v` for all
+//! their memory.
 //!
 //! `measure_stack [plan] [audit] [sheet]`
 
 use comparisons::audit::Verdict;
+use comparisons::extremes::deepest;
 use comparisons::follower::Record;
 use comparisons::library::{self, ACCEPTED, ANSWER, DONE, PASSED, SOLVED, WRITTEN};
 use comparisons::limits::PLAN_ROUNDS;
 use comparisons::listing::{audit_line, planned};
-use comparisons::made::deepest;
 use comparisons::programs::{run, said, start, Folder, Program};
 use comparisons::sheets::sheets;
 use comparisons::solver::OwnedTables;
 use comparisons::table_files::{picks_bytes, values_bytes};
+use comparisons::totals::Fourth;
 use std::process::Command;
 
 /// The steps of the measuring, in KiB: a page.
@@ -22,6 +24,8 @@ const STEP: u64 = 4;
 const PLENTY: u64 = 16 * 1_024;
 /// What a child prints when it came to its end.
 const ENDED: &str = "ended\n";
+/// The largest file has count 4.
+const LARGEST: Fourth = Some(10_000);
 /// The record at the start of the file, state 0.
 const START: Record = Record { state: 0, moves: 0, seconds: 0, mark: 0 };
 /// Runs a program under a limit.
@@ -69,7 +73,7 @@ fn set_form(file: &[u8]) {
 fn child(function: &str, kib: &str) {
     let function = function.to_string();
     let stack = kib.parse::<usize>().expect("a whole number") * 1_024;
-    let file = deepest().bytes();
+    let file = deepest(LARGEST).bytes();
     let mut tables = planned(&file).tables.expect("whole");
     let thread = std::thread::Builder::new().stack_size(stack);
     let work = move || match function.as_str() {
@@ -130,7 +134,7 @@ fn main() {
     for function in ["solve", "audit", "check", "open", "report", "set_form"] {
         println!("cuulipso_{function}: {} KiB of stack", least(|kib| library_does(function, kib)));
     }
-    let file = deepest().bytes();
+    let file = deepest(LARGEST).bytes();
     let asked = planned(&file);
     let tables = asked.tables.expect("whole");
     let folder = Folder::new("measure-stack");

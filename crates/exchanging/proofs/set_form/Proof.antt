@@ -4,8 +4,12 @@ use Prim.Native.Nat.{ℕ}
 use mathlib.Core.Path.{_≡_, refl, _∙_, sym, ap}
 use lib.ListN.{length-replicate}
 use Rattle.model.specs.Answers.{verdictOf}
+use Rattle.model.specs.Encoding.{settingNumber}
 use Rattle.model.specs.Limits.{maxOutcomes}
 use Rattle.model.specs.Questions.{passes, fileQuestions}
+use Rattle.guarantee.specs.Encodings.{setting-number-high}
+use Rattle.exchanging.specs.Forms.{formOf}
+use Rattle.exchanging.proofs.Sections.{number-is}
 use Rattle.exchanging.proofs.Replies.{accepts, file-refused, too-short, form-written, outcomes-few, size-is, form-asked}
 use borrow.Author.Needs.{needs}
 use native.Mathlib.Omega.{arith}
@@ -18,6 +22,10 @@ told c = ap verdictOf (c .enum-told .given .1)
 
 passed : (c : tie.After-enum-told) → fileQuestions (c .before .before .before .before .before .before .args .file .now) ≡ passes
 passed c = sym (c .before .before .questions .ensures .verdict) ∙ told c
+
+-- the form's number of settings
+settings-are : (c : tie.After-setting-number) → c .setting-number .result ≡ settingNumber (formOf (c .before .before .before .before .before .before .before .before .before .before .before .before .before .args .file .now))
+settings-are c = c .setting-number .ensures ∙ number-is _ (c .before .total-of .ensures)
 
 questions-requires : tie.Need-questions-requires
 questions-requires c κs = search needs
@@ -41,36 +49,47 @@ gather-rows-requires c κs = (
   length-replicate {A = ℕ} maxOutcomes 0,
 )
 
+total-of-requires : tie.Need-total-of-requires
+total-of-requires c κs = c .before .before .before .before .before .before .before .questions .ensures .ready (told (c .before .before .before .before .before)) .whole
+
+setting-number-requires : tie.Need-setting-number-requires
+setting-number-requires c κs = search needs
+
 form-length-requires : tie.Need-form-length-requires
 form-length-requires c κs =
-    let h = accepts _ _ (passed (c .before .before .before .before .before)) (c .before .before .before .before .before .before .before .questions .ensures .ready (told (c .before .before .before .before .before))) in (
-      c .before .before .before .before .layout-of .ensures .states-high,
-      c .before .before .before .before .layout-of .ensures .rows-high,
-      outcomes-few h (c .before .before .before .before .layout-of .ensures .states-are) (c .before .before .before .before .layout-of .ensures .rows-are) (c .gather-rows .ensures .0),
+    let h = accepts _ _ (passed (c .before .before .before .before .before .before .before)) (c .before .before .before .before .before .before .before .before .before .questions .ensures .ready (told (c .before .before .before .before .before .before .before))) in (
+      omega (arith, settings-are c, setting-number-high (formOf (c .before .before .before .before .before .before .before .before .before .before .before .before .before .args .file .now))),
+      c .before .before .before .before .before .before .layout-of .ensures .states-high,
+      c .before .before .before .before .before .before .layout-of .ensures .rows-high,
+      outcomes-few h (c .before .before .before .before .before .before .layout-of .ensures .states-are) (c .before .before .before .before .before .before .layout-of .ensures .rows-are) (c .before .before .gather-rows .ensures .0),
     )
 
 returns-2 : tie.Need-returns-2
 returns-2 c =
-    let h = accepts _ _ (passed (c .before .before .before .before .before .before .before)) (c .before .before .before .before .before .before .before .before .before .questions .ensures .ready (told (c .before .before .before .before .before .before .before))) in
-    let size = size-is h (c .before .before .before .before .before .before .layout-of .ensures .states-are) (c .before .before .before .before .before .before .layout-of .ensures .rows-are) (c .before .before .gather-rows .ensures .0)
-    (c .before .form-length .ensures) in
-    too-short _ _ (passed (c .before .before .before .before .before .before .before)) (omega (arith, size, c .if1 .taken)) refl
+    let h = accepts _ _ (passed (c .before .before .before .before .before .before .before .before .before)) (c .before .before .before .before .before .before .before .before .before .before .before .questions .ensures .ready (told (c .before .before .before .before .before .before .before .before .before))) in
+    let size = size-is h (c .before .before .before .before .before .before .before .before .layout-of .ensures .states-are) (c .before .before .before .before .before .before .before .before .layout-of .ensures .rows-are) (c .before .before .before .before .gather-rows .ensures .0)
+    (settings-are (c .before .before)) (c .before .form-length .ensures) in
+    too-short _ _ (passed (c .before .before .before .before .before .before .before .before .before)) (omega (arith, size, c .if1 .taken)) refl
 
 put-form-requires : tie.Need-put-form-requires
 put-form-requires c κs =
-    let h = accepts _ _ (passed (c .before .before .before .before .before .before .before .before .before .before .before)) (c .before .before .before .before .before .before .before .before .before .before .before .before .before .questions .ensures .ready (told (c .before .before .before .before .before .before .before .before .before .before .before))) in
-    form-asked h (c .before .before .before .before .before .before .before .before .before .before .layout-of .ensures .states-are) (c .before .before .before .before .before .before .before .before .before .before .layout-of .ensures .rows-are) (c .before .before .before .before .before .before .gather-rows .ensures .0)
-    (c .before .before .before .before .before .before .gather-rows .ensures .1) (c .before .before .before .before .before .form-length .ensures) (c .before .before .before .before .if1 .left)
+    let h = accepts _ _ (passed (c .before .before .before .before .before .before .before .before .before .before .before .before .before)) (c .before .before .before .before .before .before .before .before .before .before .before .before .before .before .before .questions .ensures .ready (told (c .before .before .before .before .before .before .before .before .before .before .before .before .before))) in
+    let size = size-is h (c .before .before .before .before .before .before .before .before .before .before .before .before .layout-of .ensures .states-are) (c .before .before .before .before .before .before .before .before .before .before .before .before .layout-of .ensures .rows-are) (c .before .before .before .before .before .before .before .before .gather-rows .ensures .0)
+    (settings-are (c .before .before .before .before .before .before)) (c .before .before .before .before .before .form-length .ensures) in
+    form-asked h (c .before .before .before .before .before .before .before .before .before .before .before .before .layout-of .ensures .states-are) (c .before .before .before .before .before .before .before .before .before .before .before .before .layout-of .ensures .rows-are) (c .before .before .before .before .before .before .before .before .gather-rows .ensures .0)
+    (c .before .before .before .before .before .before .before .before .gather-rows .ensures .1) size (c .before .before .before .before .if1 .left)
 
-cast-t24 : tie.Need-cast-t24
-cast-t24 c =
-    let h = accepts _ _ (passed (c .before .before .before .before .before .before .before .before .before .before .before .before .before .before)) (c .before .before .before .before .before .before .before .before .before .before .before .before .before .before .before .before .questions .ensures .ready (told (c .before .before .before .before .before .before .before .before .before .before .before .before .before .before))) in
+cast-t16 : tie.Need-cast-t16
+cast-t16 c =
+    let h = accepts _ _ (passed (c .before .before .before .before .before .before .before .before .before .before .before .before .before .before .before .before)) (c .before .before .before .before .before .before .before .before .before .before .before .before .before .before .before .before .before .before .questions .ensures .ready (told (c .before .before .before .before .before .before .before .before .before .before .before .before .before .before .before .before))) in
     omega (
       arith,
       c .before .before .before .before .before .before .before .before .form-length .ensures,
-      c .before .before .before .before .before .before .before .before .before .before .before .before .before .layout-of .ensures .states-high,
-      c .before .before .before .before .before .before .before .before .before .before .before .before .before .layout-of .ensures .rows-high,
-      outcomes-few h (c .before .before .before .before .before .before .before .before .before .before .before .before .before .layout-of .ensures .states-are) (c .before .before .before .before .before .before .before .before .before .before .before .before .before .layout-of .ensures .rows-are) (c .before .before .before .before .before .before .before .before .before .gather-rows .ensures .0),
+      settings-are (c .before .before .before .before .before .before .before .before .before),
+      setting-number-high (formOf (c .before .before .before .before .before .before .before .before .before .before .before .before .before .before .before .before .before .before .before .before .before .before .args .file .now)),
+      c .before .before .before .before .before .before .before .before .before .before .before .before .before .before .before .layout-of .ensures .states-high,
+      c .before .before .before .before .before .before .before .before .before .before .before .before .before .before .before .layout-of .ensures .rows-high,
+      outcomes-few h (c .before .before .before .before .before .before .before .before .before .before .before .before .before .before .before .layout-of .ensures .states-are) (c .before .before .before .before .before .before .before .before .before .before .before .before .before .before .before .layout-of .ensures .rows-are) (c .before .before .before .before .before .before .before .before .before .before .before .gather-rows .ensures .0),
     )
 
 same-length : tie.Need-same-length
@@ -78,10 +97,10 @@ same-length c = search needs
 
 returns-3 : tie.Need-returns-3
 returns-3 c =
-    let h = accepts _ _ (passed (c .before .before .before .before .before .before .before .before .before .before .before .before .before .before)) (c .before .before .before .before .before .before .before .before .before .before .before .before .before .before .before .before .questions .ensures .ready (told (c .before .before .before .before .before .before .before .before .before .before .before .before .before .before))) in
-    let size = size-is h (c .before .before .before .before .before .before .before .before .before .before .before .before .before .layout-of .ensures .states-are) (c .before .before .before .before .before .before .before .before .before .before .before .before .before .layout-of .ensures .rows-are) (c .before .before .before .before .before .before .before .before .before .gather-rows .ensures .0)
-    (c .before .before .before .before .before .before .before .before .form-length .ensures) in
-    form-written _ _ (passed (c .before .before .before .before .before .before .before .before .before .before .before .before .before .before)) size (c .before .before .before .before .before .before .before .if1 .left) refl (c .before .before .put-form .ensures)
+    let h = accepts _ _ (passed (c .before .before .before .before .before .before .before .before .before .before .before .before .before .before .before .before)) (c .before .before .before .before .before .before .before .before .before .before .before .before .before .before .before .before .before .before .questions .ensures .ready (told (c .before .before .before .before .before .before .before .before .before .before .before .before .before .before .before .before))) in
+    let size = size-is h (c .before .before .before .before .before .before .before .before .before .before .before .before .before .before .before .layout-of .ensures .states-are) (c .before .before .before .before .before .before .before .before .before .before .before .before .before .before .before .layout-of .ensures .rows-are) (c .before .before .before .before .before .before .before .before .before .before .before .gather-rows .ensures .0)
+    (settings-are (c .before .before .before .before .before .before .before .before .before)) (c .before .before .before .before .before .before .before .before .form-length .ensures) in
+    form-written _ _ (passed (c .before .before .before .before .before .before .before .before .before .before .before .before .before .before .before .before)) size (c .before .before .before .before .before .before .before .if1 .left) refl (c .before .before .put-form .ensures)
 
 pub set-form-spec : {M : Type 1} → statement M
 set-form-spec =
@@ -93,9 +112,11 @@ set-form-spec =
     enum-told
     layout-of-requires
     gather-rows-requires
+    total-of-requires
+    setting-number-requires
     form-length-requires
     returns-2
     put-form-requires
-    cast-t24
+    cast-t16
     same-length
     returns-3)

@@ -6,20 +6,20 @@ use lib.ListN.{length-take}
 use mathlib.Core.Path.{_≡_, _∙_, sym}
 use Rattle.model.specs.Search.{first}
 use Rattle.reading.specs.Tests.{partOf, outcomesIn}
-use Rattle.checking.specs.ItemTests.{outcomesTest}
+use Rattle.model.specs.Questions.{rowSound}
 use Rattle.guarantee.specs.Loops.{search-starts, search-goes-on, search-stops, search-ends}
 use native.Mathlib.Omega.{arith}
 use Rattle.checking.proofs.items.bad_outcomes.Statement.{statement}
 use Rattle.checking.proofs.items.bad_outcomes.Tie as tie
 
 abbrev Inv-loop : tie.InvT-loop
-Inv-loop file n states index row₀ row =
+Inv-loop file n states total index row₀ row =
     (row ≤ n)
-    × (first (λ k. outcomesTest states (outcomesIn (partOf file index k))) 0 n
-    ≡ first (λ k. outcomesTest states (outcomesIn (partOf file index k))) row (n - row))
+    × (first (λ k. rowSound states total (outcomesIn (partOf file index k))) 0 n
+    ≡ first (λ k. rowSound states total (outcomesIn (partOf file index k))) row (n - row))
 
 abbrev μ-loop : tie.MeasureT-loop
-μ-loop file n states index row₀ row = n - row
+μ-loop file n states total index row₀ row = n - row
 
 loop-holds : tie.Need-loop-holds Inv-loop μ-loop
 loop-holds c = (omega arith, search-starts _ _)

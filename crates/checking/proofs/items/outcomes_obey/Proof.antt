@@ -1,5 +1,5 @@
 -- `outcomes_obey` answers question 10 of one row. What is left obeys exactly where all do, and the weights so far and those
--- left add to the total.
+-- left add to the sum of all.
 -- Made by `places make` from answers/items/outcomes_obey.ans: edit that file, and not this one.
 use borrow.Author.Tests.{le-ltb, lt-ltb, lt-leb, le-leb}
 use native.Mathlib.Nat.{sub-zero, zero-add, add-zero}
@@ -8,7 +8,7 @@ use lib.ListN.{length}
 use mathlib.Core.Path.{_≡_, _∙_, sym}
 use mathlib.Core.Bool.{and-false}
 use Rattle.model.specs.Bytes.{u16At}
-use Rattle.model.specs.Limits.{weightTotal}
+use Rattle.reading.specs.Bounds.{shortBound}
 use Rattle.model.specs.Questions.{outcomesObey}
 use Rattle.model.specs.Sections.{outcomesFrom}
 use Rattle.model.specs.Value.{totalWeight}
@@ -19,14 +19,14 @@ use Rattle.checking.proofs.items.outcomes_obey.Statement.{statement}
 use Rattle.checking.proofs.items.outcomes_obey.Tie as tie
 
 abbrev Inv-loop : tie.InvT-loop
-Inv-loop part states count total₀ i₀ total i =
+Inv-loop part states total count sum₀ i₀ sum i =
     (i ≤ count)
-    × (total ≤ weightTotal * i)
-    × (outcomesObey states (outcomesFrom part 0 count) ≡ outcomesObey states (outcomesFrom part i (count - i)))
-    × (totalWeight (outcomesFrom part 0 count) ≡ total + totalWeight (outcomesFrom part i (count - i)))
+    × (sum ≤ shortBound * i)
+    × (outcomesObey states total (outcomesFrom part 0 count) ≡ outcomesObey states total (outcomesFrom part i (count - i)))
+    × (totalWeight (outcomesFrom part 0 count) ≡ sum + totalWeight (outcomesFrom part i (count - i)))
 
 abbrev μ-loop : tie.MeasureT-loop
-μ-loop part states count total₀ i₀ total i = count - i
+μ-loop part states total count sum₀ i₀ sum i = count - i
 
 loop-holds : tie.Need-loop-holds Inv-loop μ-loop
 loop-holds c = (omega arith, omega arith, rw sub-zero, rw (sub-zero, zero-add))
@@ -52,20 +52,20 @@ cast-if1 c = omega arith
 returns : tie.Need-returns Inv-loop μ-loop
 returns c =
     let e : (c .before .before .before .before .before .before .args .states) ≤ u16At (c .before .before .before .before .before .before .args .part .now) (4 * (c .before .before .before .before .loop .i)) = omega arith in
-    sym (and-not-left _ (c .before .before .before .before .loop .inv .2 ∙ obey-fails _ _ _ (c .before .before .before .loop-test .taken) _ (simp (le-ltb _ _ e))))
+    sym (and-not-left _ (c .before .before .before .before .loop .inv .2 ∙ obey-fails _ _ _ (c .before .before .before .loop-test .taken) _ _ (simp (le-ltb _ _ e))))
 
 returns-2 : tie.Need-returns-2 Inv-loop μ-loop
 returns-2 c =
     let e : u16At (c .before .before .before .before .before .before .before .args .part .now) (4 * (c .before .before .before .before .before .loop .i) + 2) < 1 = omega arith in
-    sym (and-not-left _ (c .before .before .before .before .before .loop .inv .2 ∙ obey-fails _ _ _ (c .before .before .before .before .loop-test .taken) _ (simp (lt-leb _ _ e, and-false))))
+    sym (and-not-left _ (c .before .before .before .before .before .loop .inv .2 ∙ obey-fails _ _ _ (c .before .before .before .before .loop-test .taken) _ _ (simp (lt-leb _ _ e, and-false))))
 
 returns-3 : tie.Need-returns-3 Inv-loop μ-loop
 returns-3 c =
-    let e : weightTotal < u16At (c .before .before .before .before .before .before .before .before .args .part .now) (4 * (c .before .before .before .before .before .before .loop .i) + 2) = omega arith in
-    sym (and-not-left _ (c .before .before .before .before .before .before .loop .inv .2 ∙ obey-fails _ _ _ (c .before .before .before .before .before .loop-test .taken) _ (simp (lt-leb _ _ e, and-false))))
+    let e : (c .before .before .before .before .before .before .before .before .args .total) < u16At (c .before .before .before .before .before .before .before .before .args .part .now) (4 * (c .before .before .before .before .before .before .loop .i) + 2) = omega arith in
+    sym (and-not-left _ (c .before .before .before .before .before .before .loop .inv .2 ∙ obey-fails _ _ _ (c .before .before .before .before .before .loop-test .taken) _ _ (simp (lt-leb _ _ e, and-false))))
 
-add-total : tie.Need-add-total Inv-loop μ-loop
-add-total c = omega arith
+add-sum : tie.Need-add-sum Inv-loop μ-loop
+add-sum c = omega arith
 
 add-i : tie.Need-add-i Inv-loop μ-loop
 add-i c = omega arith
@@ -77,10 +77,10 @@ loop-again : tie.Need-loop-again Inv-loop μ-loop
 loop-again c =
     let a : u16At (c .before .before .before .before .before .before .before .before .args .part .now) (4 * (c .before .before .before .before .before .before .loop .i)) < (c .before .before .before .before .before .before .before .before .args .states) = omega arith in
     let l : 1 ≤ u16At (c .before .before .before .before .before .before .before .before .args .part .now) (4 * (c .before .before .before .before .before .before .loop .i) + 2) = omega arith in
-    let h : u16At (c .before .before .before .before .before .before .before .before .args .part .now) (4 * (c .before .before .before .before .before .before .loop .i) + 2) ≤ weightTotal = omega arith in (
+    let h : u16At (c .before .before .before .before .before .before .before .before .args .part .now) (4 * (c .before .before .before .before .before .before .loop .i) + 2) ≤ (c .before .before .before .before .before .before .before .before .args .total) = omega arith in (
       omega arith,
       omega arith,
-      c .before .before .before .before .before .before .loop .inv .2 ∙ obey-goes-on _ _ _ (c .before .before .before .before .before .loop-test .taken) _ (simp (lt-ltb _ _ a, le-leb _ _ l, le-leb _ _ h)),
+      c .before .before .before .before .before .before .loop .inv .2 ∙ obey-goes-on _ _ _ (c .before .before .before .before .before .loop-test .taken) _ _ (simp (lt-ltb _ _ a, le-leb _ _ l, le-leb _ _ h)),
       omega (arith, weight-goes-on (c .before .before .before .before .before .before .before .before .args .part .now) (length (c .before .before .before .before .before .before .before .before .args .part .now) / 4) (c .before .before .before .before .before .before .loop .i) (c .before .before .before .before .before .loop-test .taken)),
     )
 
@@ -104,7 +104,7 @@ outcomes-obey-spec =
     returns
     returns-2
     returns-3
-    add-total
+    add-sum
     add-i
     loop-less
     loop-again

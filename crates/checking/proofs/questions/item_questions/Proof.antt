@@ -2,7 +2,7 @@
 -- Made by `places make` from answers/questions/item_questions.ans: edit that file, and not this one.
 use mathlib.Core.Path.{_∙_, sym, ap}
 use Rattle.model.specs.Answers.{verdictOf}
-use Rattle.checking.proofs.Asking.{no-pass, four-no, four-yes, start-below, penalty-fits}
+use Rattle.checking.proofs.Asking.{no-pass, four-no, four-yes, start-below, penalty-fits, total-fits}
 use Rattle.checking.proofs.Asking.{five-no, five-yes, six-no, six-yes}
 use Rattle.checking.proofs.Asking.{items-stop-4, items-stop-5, items-stop-6, items-stop-rows, items-values}
 use borrow.Author.Needs.{needs}
@@ -16,6 +16,9 @@ settings-of-requires c κs = c .before .pre .0 .whole
 bad-setting-requires : tie.Need-bad-setting-requires
 bad-setting-requires c κs = search needs
 
+setting-question-requires : tie.Need-setting-question-requires
+setting-question-requires c κs = search needs
+
 cast-refused : tie.Need-cast-refused
 cast-refused c = omega arith
 
@@ -24,8 +27,8 @@ refused-requires c κs = omega arith
 
 returns : tie.Need-returns
 returns c =
-    let n4 = four-no (c .before .before .before .before .before .pre .0) (c .before .before .before .settings-of .ensures) _ (c .before .before .bad-setting .ensures) (c .before .if1 .taken) in
-    rw (c .refused .ensures) (items-stop-4 n4)
+    let n4 = four-no (c .before .before .before .before .before .before .pre .0) (c .before .before .before .before .settings-of .ensures) _ (c .before .before .before .bad-setting .ensures) (c .before .before .if1 .taken) in
+    rw (c .refused .ensures, c .before .setting-question .ensures) (items-stop-4 n4)
 
 give-up-cost-requires : tie.Need-give-up-cost-requires
 give-up-cost-requires c κs =
@@ -80,7 +83,12 @@ returns-4 c =
 value-questions-requires : tie.Need-value-questions-requires
 value-questions-requires c κs =
     let e = ap verdictOf (c .before .enum-told .given .1) in
-    record { whole = c .before .before .before .before .before .before .before .before .before .before .before .before .before .before .before .pre .0 .whole; laid = c .before .before .before .before .before .before .before .before .before .before .before .before .before .before .before .pre .0 .laid; indexed = c .before .before .before .row-questions .ensures .indexed e }
+    record {
+      whole = c .before .before .before .before .before .before .before .before .before .before .before .before .before .before .before .pre .0 .whole;
+      laid = c .before .before .before .before .before .before .before .before .before .before .before .before .before .before .before .pre .0 .laid;
+      total-known = total-fits (c .before .before .before .before .before .before .before .before .before .before .before .before .before .before .before .pre .0) (c .before .before .before .before .before .before .before .before .before .before .before .before .before .settings-of .ensures) _ (c .before .before .before .before .before .before .before .before .before .before .before .before .bad-setting .ensures) (c .before .before .before .before .before .before .before .before .before .before .before .if1 .left);
+      indexed = c .before .before .before .row-questions .ensures .indexed e;
+    }
 
 returns-5 : tie.Need-returns-5
 returns-5 c =
@@ -96,6 +104,7 @@ item-questions-spec =
     (tie.spec
     settings-of-requires
     bad-setting-requires
+    setting-question-requires
     cast-refused
     refused-requires
     returns

@@ -1,34 +1,53 @@
--- `put_settings` puts the count and the three settings one after the other.
+-- `put_settings` puts the count and the settings one after the other: three, or four where the total is not 1,000.
 -- Made by `places make` from answers/form/put_settings.ans: edit that file, and not this one.
-use mathlib.Core.Path.{ap, ap₂}
+use Prim.Native.Nat.{_≤_}
+use lib.ListN.{length}
+use mathlib.Core.Path.{_≡_, _∙_, sym, ap, ap₂}
 use mathlib.Core.List.{_++_}
 use Rattle.model.specs.Bytes.{numberBytes}
-use Rattle.model.specs.Encoding.{settingBytes}
-use Rattle.model.specs.Limits.{settingCount}
-use Rattle.model.specs.SetForm.{inSetForm}
+use Rattle.model.specs.Encoding.{settingNumber}
+use Rattle.guarantee.specs.Encodings.{setting-number-low}
+use Rattle.exchanging.specs.Forms.{formOf}
 use Rattle.exchanging.proofs.Runs.{puts-then, puts-same, number-ends}
+use Rattle.exchanging.proofs.Sections.{number-is, three-settings, four-settings, four-room}
 use borrow.Author.Needs.{needs}
 use native.Mathlib.Omega.{arith}
 use Rattle.exchanging.proofs.form.put_settings.Statement.{statement}
 use Rattle.exchanging.proofs.form.put_settings.Tie as tie
 
+-- the form's number of settings
+settings-are : (c : tie.After-setting-number) → c .setting-number .result ≡ settingNumber (formOf (c .before .before .before .before .before .args .file .now))
+settings-are c = c .setting-number .ensures ∙ number-is _ (c .before .before .settings-of .ensures .total-is)
+
 settings-of-requires : tie.Need-settings-of-requires
-settings-of-requires c κs = search needs
+settings-of-requires c κs = c .before .before .pre .0
+
+setting-number-requires : tie.Need-setting-number-requires
+setting-number-requires c κs = search needs
 
 put16-requires : tie.Need-put16-requires
-put16-requires c κs = omega (arith, c .before .before .before .before .pre .1)
+put16-requires c κs = omega (arith, c .before .before .before .before .before .pre .1, setting-number-low (formOf (c .before .before .before .before .before .args .file .now)))
 
 put32-requires : tie.Need-put32-requires
-put32-requires c κs = omega (arith, c .before .before .before .before .before .before .before .before .pre .1, number-ends 2 _ (c .before .before .before .put16 .ensures))
+put32-requires c κs =
+    omega (arith, c .before .before .before .before .before .before .before .before .before .pre .1, setting-number-low (formOf (c .before .before .before .before .before .before .before .before .before .args .file .now)), number-ends 2 _ (c .before .before .before .put16 .ensures))
 
 put32-requires-2 : tie.Need-put32-requires-2
-put32-requires-2 c κs = omega (arith, c .before .before .before .before .before .before .before .before .before .before .before .before .pre .1, number-ends 2 _ (c .before .before .before .before .before .before .before .put16 .ensures), number-ends 4 _ (c .before .before .before .put32 .ensures))
+put32-requires-2 c κs =
+    omega (
+      arith,
+      c .before .before .before .before .before .before .before .before .before .before .before .before .before .pre .1,
+      setting-number-low (formOf (c .before .before .before .before .before .before .before .before .before .before .before .before .before .args .file .now)),
+      number-ends 2 _ (c .before .before .before .before .before .before .before .put16 .ensures),
+      number-ends 4 _ (c .before .before .before .put32 .ensures),
+    )
 
 put32-requires-3 : tie.Need-put32-requires-3
 put32-requires-3 c κs =
     omega (
       arith,
-      c .before .before .before .before .before .before .before .before .before .before .before .before .before .before .before .before .pre .1,
+      c .before .before .before .before .before .before .before .before .before .before .before .before .before .before .before .before .before .pre .1,
+      setting-number-low (formOf (c .before .before .before .before .before .before .before .before .before .before .before .before .before .before .before .before .before .args .file .now)),
       number-ends 2 _ (c .before .before .before .before .before .before .before .before .before .before .before .put16 .ensures),
       number-ends 4 _ (c .before .before .before .before .before .before .before .put32 .ensures),
       number-ends 4 _ (c .before .before .before .put322 .ensures),
@@ -38,23 +57,45 @@ same-length : tie.Need-same-length
 same-length c = search needs
 
 returns : tie.Need-returns
-unfolding settingBytes inSetForm
 returns c =
-    let s = c .before .before .before .before .before .before .before .before .before .before .before .before .before .before .before .before .settings-of .ensures in
     puts-same
-    (puts-then (c .before .before .before .before .before .before .before .before .before .before .before .before .before .before .put16 .ensures) (puts-then (c .before .before .before .before .before .before .before .before .before .before .put32 .ensures) (puts-then (c .before .before .before .before .before .before .put322 .ensures) (c .before .before .put323 .ensures))))
-    (ap (λ l. numberBytes 2 settingCount ++ l)
-    (ap₂ _++_ (ap (numberBytes 4) (s .start-is))
-    (ap₂ _++_ (ap (numberBytes 4) (s .tolerance-is)) (ap (numberBytes 4) (s .penalty-is)))))
+    (puts-then (c .before .before .before .before .before .before .before .before .before .before .before .before .before .before .before .before .put16 .ensures) (puts-then (c .before .before .before .before .before .before .before .before .before .before .before .before .put32 .ensures) (puts-then (c .before .before .before .before .before .before .before .before .put322 .ensures) (c .before .before .before .before .put323 .ensures))))
+    (ap₂ _++_ (ap (numberBytes 2) (settings-are (c .before .before .before .before .before .before .before .before .before .before .before .before .before .before .before .before .before))) (three-settings (c .before .before .before .before .before .before .before .before .before .before .before .before .before .before .before .before .before .before .before .settings-of .ensures) (c .if1 .taken)))
+
+put32-requires-4 : tie.Need-put32-requires-4
+put32-requires-4 c κs =
+    omega (
+      arith,
+      c .before .before .before .before .before .before .before .before .before .before .before .before .before .before .before .before .before .before .before .before .before .before .before .pre .1,
+      four-room (c .before .before .before .before .before .before .before .before .before .before .before .before .before .before .before .before .before .before .before .before .settings-of .ensures) (c .before .if1 .left),
+      number-ends 2 _ (c .before .before .before .before .before .before .before .before .before .before .before .before .before .before .before .before .before .put16 .ensures),
+      number-ends 4 _ (c .before .before .before .before .before .before .before .before .before .before .before .before .before .put32 .ensures),
+      number-ends 4 _ (c .before .before .before .before .before .before .before .before .before .put322 .ensures),
+      number-ends 4 _ (c .before .before .before .before .before .put323 .ensures),
+    )
+
+same-length-2 : tie.Need-same-length-2
+same-length-2 c = search needs
+
+returns-2 : tie.Need-returns-2
+returns-2 c =
+    puts-same
+    (puts-then (c .before .before .before .before .before .before .before .before .before .before .before .before .before .before .before .before .before .before .before .before .put16 .ensures)
+    (puts-then (c .before .before .before .before .before .before .before .before .before .before .before .before .before .before .before .before .put32 .ensures) (puts-then (c .before .before .before .before .before .before .before .before .before .before .before .before .put322 .ensures) (puts-then (c .before .before .before .before .before .before .before .before .put323 .ensures) (c .before .before .put324 .ensures)))))
+    (ap₂ _++_ (ap (numberBytes 2) (settings-are (c .before .before .before .before .before .before .before .before .before .before .before .before .before .before .before .before .before .before .before .before .before))) (four-settings (c .before .before .before .before .before .before .before .before .before .before .before .before .before .before .before .before .before .before .before .before .before .before .before .settings-of .ensures) (c .before .before .before .before .if1 .left)))
 
 pub put-settings-spec : {M : Type 1} → statement M
 put-settings-spec =
     tie.close
     (tie.spec
     settings-of-requires
+    setting-number-requires
     put16-requires
     put32-requires
     put32-requires-2
     put32-requires-3
     same-length
-    returns)
+    returns
+    put32-requires-4
+    same-length-2
+    returns-2)

@@ -17,7 +17,7 @@ row-value-requires c κs =
     }
 
 cast-result : tie.Need-cast-result
-cast-result c = omega (arith, remainder-fits _ _ _ (c .before .row-value .ensures .1))
+cast-result c = omega (arith, remainder-fits _ (c .before .before .before .before .before .pre .ready .total-known) _ _ (c .before .row-value .ensures .1))
 
 returns-2 : tie.Need-returns-2
 returns-2 c = row-left _ _ _ (omega (arith, c .before .before .if1 .left, c .before .before .before .before .before .pre .rows-are)) (c .before .row-value .ensures .1)

@@ -19,7 +19,7 @@ put-remainders-requires c κs = (
 )
 
 returns : tie.Need-returns
-returns c = record { filled = c .put-remainders .ensures }
+returns c = record { total-known = λ l. c .before .before .before .before .before .before .before .pre .ready (c .before .before .before .if1 .taken) .total-known; filled = c .put-remainders .ensures }
 
 returns-2 : tie.Need-returns-2
 returns-2 c = none-filled (c .if1 .left)

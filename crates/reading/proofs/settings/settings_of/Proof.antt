@@ -1,4 +1,4 @@
--- `settings_of` answers the three settings: the problem reads them at the same places.
+-- `settings_of` answers the settings: the problem reads them at the same places.
 -- Made by `places make` from answers/settings/settings_of.ans: edit that file, and not this one.
 use mathlib.Core.Path.{_∙_}
 use Rattle.reading.proofs.Places.{settings-there, start-at, tolerance-at, penalty-at}
@@ -21,12 +21,16 @@ add-u32-at-2 c = omega (arith, settings-there _ (c .before .before .before .pre)
 u32-at-requires-3 : tie.Need-u32-at-requires-3
 u32-at-requires-3 c κs = omega (arith, settings-there _ (c .before .before .before .pre))
 
+total-of-requires : tie.Need-total-of-requires
+total-of-requires c κs = c .before .before .before .before .pre
+
 returns : tie.Need-returns
 returns c =
     record {
-      start-is = c .before .before .u32-at .ensures .0 ∙ start-at _;
-      tolerance-is = c .before .u32-at2 .ensures .0 ∙ tolerance-at _;
-      penalty-is = c .u32-at3 .ensures .0 ∙ penalty-at _;
+      start-is = c .before .before .before .u32-at .ensures .0 ∙ start-at _;
+      tolerance-is = c .before .before .u32-at2 .ensures .0 ∙ tolerance-at _;
+      penalty-is = c .before .u32-at3 .ensures .0 ∙ penalty-at _;
+      total-is = c .total-of .ensures;
     }
 
 pub settings-of-spec : {M : Type 1} → statement M
@@ -38,4 +42,5 @@ settings-of-spec =
     u32-at-requires-2
     add-u32-at-2
     u32-at-requires-3
+    total-of-requires
     returns)

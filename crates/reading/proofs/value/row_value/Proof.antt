@@ -1,6 +1,7 @@
 -- `row_value` hands the row's part of the file to the weighted sum: the part that the index gives holds the row's outcomes.
 -- Made by `places make` from answers/value/row_value.ans: edit that file, and not this one.
-use Rattle.reading.proofs.RowValues.{part-ordered, part-inside, sum-there, cost-fits, row-value-is, row-remainder-is}
+use mathlib.Core.Path.{_∙_}
+use Rattle.reading.proofs.RowValues.{part-ordered, part-inside, sum-there, cost-fits, mean-high, row-value-is, row-remainder-is}
 use borrow.Author.Needs.{needs}
 use native.Mathlib.Omega.{arith}
 use Rattle.reading.proofs.value.row_value.Statement.{statement}
@@ -69,19 +70,23 @@ part-weighted-sum-end c = part-inside (c .before .before .before .before .before
 weighted-sum-requires : tie.Need-weighted-sum-requires
 weighted-sum-requires c κs = sum-there (c .before .before .before .before .before .before .pre)
 
+total-of-requires : tie.Need-total-of-requires
+total-of-requires c κs = c .before .before .before .before .before .before .before .pre .ready .whole
+
 average-requires : tie.Need-average-requires
-average-requires c κs = search needs
+average-requires c κs = rw (c .total-of .ensures) (c .before .before .before .before .before .before .before .before .pre .ready .total-known)
 
 add-value : tie.Need-add-value
-add-value c = omega (arith, cost-fits (c .before .before .before .before .before .before .before .before .pre) (λ i. c .before .before .before .before .before .before .before .shared-slice-known .given i .fits), c .before .weighted-sum .ok, c .average .ensures)
+add-value c =
+    omega (arith, cost-fits (c .before .before .before .before .before .before .before .before .before .pre) (λ i. c .before .before .before .before .before .before .before .before .shared-slice-known .given i .fits), c .before .before .weighted-sum .ensures .1, mean-high _ _ (c .average .ensures))
 
 remainder-of-requires : tie.Need-remainder-of-requires
 remainder-of-requires c κs = c .average .ensures
 
 returns : tie.Need-returns
 returns c = (
-  rw (c .before .average .ensures, c .before .before .weighted-sum .ensures) (row-value-is (c .before .before .before .before .before .before .before .before .before .pre) _),
-  rw (c .remainder-of .ensures, c .before .before .weighted-sum .ensures) (row-remainder-is (c .before .before .before .before .before .before .before .before .before .pre) _),
+  rw (c .before .average .ensures, c .before .before .before .weighted-sum .ensures .0, c .before .before .total-of .ensures) (row-value-is (c .before .before .before .before .before .before .before .before .before .before .pre) _),
+  c .remainder-of .ensures ∙ rw (c .before .before .before .weighted-sum .ensures .0, c .before .before .total-of .ensures) (row-remainder-is (c .before .before .before .before .before .before .before .before .before .before .pre) _),
 )
 
 pub row-value-spec : {M : Type 1} → statement M
@@ -109,6 +114,7 @@ row-value-spec =
     part-weighted-sum-start
     part-weighted-sum-end
     weighted-sum-requires
+    total-of-requires
     average-requires
     add-value
     remainder-of-requires

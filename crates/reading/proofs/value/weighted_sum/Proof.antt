@@ -83,7 +83,7 @@ returns : tie.Need-returns Inv-loop μ-loop
 unfolding weightedSum
 returns c =
     let e = outcomes-end (c .before .before .before .before .args .part .now) _ _ (c .loop-test .left) in
-    sym (c .before .loop .inv .2 ∙ simp (e, add-zero))
+    (sym (c .before .loop .inv .2 ∙ simp (e, add-zero)), omega (arith, c .before .before .before .before .pre .few))
 
 pub weighted-sum-spec : {M : Type 1} → statement M
 weighted-sum-spec =

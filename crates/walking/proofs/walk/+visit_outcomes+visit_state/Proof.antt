@@ -1,6 +1,7 @@
 -- `visit_state` and `visit_outcomes` make the model's visits. The loop's invariant: what is left of the outcomes
 -- completes the whole. The measure is twice the number of unmarked states, and one more for the outcomes.
 -- Made by `places make` from answers/walk/+visit_outcomes+visit_state.ans: edit that file, and not this one.
+use borrow.Author.Tests.{not-true, not-false}
 use mathlib.Core.Path.{_≡_, sym, _∙_}
 use Prim.Native.Nat.{ℕ, _+_, _-_, _*_, _<_}
 use Rattle.model.specs.Sections.{problemOf}
@@ -8,7 +9,8 @@ use Rattle.model.specs.Value.{byState}
 use Rattle.model.specs.Walk.{next}
 use Rattle.guarantee.specs.Graphs.{each}
 use Rattle.walking.specs.Trails.{unmarkedStates, leads}
-use Rattle.walking.proofs.PickedParts.{index-there, picked-leads, picked-outcomes, outcome-there, outcome-state}
+use Rattle.walking.proofs.PickedParts.{index-there, picked-open, picked-leads, picked-outcomes}
+use Rattle.walking.proofs.PickedParts.{outcome-there, outcome-state}
 use Rattle.walking.proofs.Visits.{mark-left, mark-under, list-room, over-goal, over-listed}
 use Rattle.walking.proofs.Visits.{Looping, loop-start, loop-end, loop-pass, loop-visit}
 use borrow.Author.Needs.{needs}
@@ -24,7 +26,7 @@ use Rattle.walking.proofs.walk.visit_state.Kinds as visit-state-kinds
 use Rattle.walking.proofs.walk.+visit_outcomes+visit_state.Lts-visit_state as visit-state-lts
 use Rattle.reading.proofs.numbers.u16_at.Reads as u16-at-reads
 use Rattle.walking.proofs.walk.picked.Reads as picked-reads
-use Rattle.reading.proofs.states.is_goal.Reads as is-goal-reads
+use Rattle.walking.proofs.walk.no_goal.Reads as no-goal-reads
 use Rattle.walking.proofs.walk.+visit_outcomes+visit_state.{statement}
 use Rattle.walking.proofs.walk.+visit_outcomes+visit_state.Tie as tie
 
@@ -53,13 +55,13 @@ abbrev visit-outcomes-μ-loop : visit-outcomes-lts.MeasureT-loop
 visit-outcomes-μ-loop file index picks marks₀ list₀ from to n i₀ k₀ marks list i k = to - i
 
 -- the part leads where the model's graph does
-led : (t : ℕ) (c : visit-state-lts.After-picked (picked-reads.Asked, picked-reads.Learnt, visit-outcomes-below t, visit-outcomes-reads.Post, is-goal-reads.Asked, is-goal-reads.Learnt) (visit-state-at t) visit-state-reads.Post)
+led : (t : ℕ) (c : visit-state-lts.After-picked (picked-reads.Asked, picked-reads.Learnt, visit-outcomes-below t, visit-outcomes-reads.Post, no-goal-reads.Asked, no-goal-reads.Learnt) (visit-state-at t) visit-state-reads.Post)
     → leads (c .before .before .before .before .before .args .file .now) (c .picked .result .from) (c .picked .result .to)
     ≡ next (problemOf (c .before .before .before .before .before .args .file .now)) (byState (c .before .before .before .before .before .args .picks .now)) (c .before .before .before .before .before .args .s)
 led t c = picked-leads (c .before .before .before .before .before .pre .1 .0 .walkable) _ (c .before .before .before .before .before .pre .1 .1) (c .before .before .before .before .before .args .picks .now) (c .picked .ensures)
 
 -- there is room to list the state
-room : (t : ℕ) (c : visit-state-lts.After-visit-outcomes (picked-reads.Asked, picked-reads.Learnt, visit-outcomes-below t, visit-outcomes-reads.Post, is-goal-reads.Asked, is-goal-reads.Learnt) (visit-state-at t) visit-state-reads.Post) → c .visit-outcomes .result < problemOf (c .before .before .before .before .before .before .before .before .args .file .now) .states
+room : (t : ℕ) (c : visit-state-lts.After-visit-outcomes (picked-reads.Asked, picked-reads.Learnt, visit-outcomes-below t, visit-outcomes-reads.Post, no-goal-reads.Asked, no-goal-reads.Learnt) (visit-state-at t) visit-state-reads.Post) → c .visit-outcomes .result < problemOf (c .before .before .before .before .before .before .before .before .args .file .now) .states
 room t c = list-room (c .before .before .before .before .before .before .before .before .pre .1 .0) _ (c .before .before .before .before .before .before .before .before .pre .1 .1) (c .before .before .before .before .before .before .before .before .pre .1 .2) _ _ (c .visit-outcomes .ensures)
 
 visit-outcomes-loop-holds : (t : nat.ℕ) → visit-outcomes-lts.Need-loop-holds (u16-at-reads.Asked, u16-at-reads.Learnt, visit-state-below t, visit-state-reads.Post) (visit-outcomes-at t) visit-outcomes-reads.Post visit-outcomes-Inv-loop visit-outcomes-μ-loop
@@ -110,22 +112,22 @@ visit-outcomes-same-length t c = c .before .loop .inv .long
 visit-outcomes-returns : (t : nat.ℕ) → visit-outcomes-lts.Need-returns (u16-at-reads.Asked, u16-at-reads.Learnt, visit-state-below t, visit-state-reads.Post) (visit-outcomes-at t) visit-outcomes-reads.Post visit-outcomes-Inv-loop visit-outcomes-μ-loop
 visit-outcomes-returns t c = loop-end (c .before .loop .inv) (c .loop-test .left)
 
-visit-state-element-write-marks : (t : nat.ℕ) → visit-state-lts.Need-element-write-marks (picked-reads.Asked, picked-reads.Learnt, visit-outcomes-below t, visit-outcomes-reads.Post, is-goal-reads.Asked, is-goal-reads.Learnt) (visit-state-at t) visit-state-reads.Post
+visit-state-element-write-marks : (t : nat.ℕ) → visit-state-lts.Need-element-write-marks (picked-reads.Asked, picked-reads.Learnt, visit-outcomes-below t, visit-outcomes-reads.Post, no-goal-reads.Asked, no-goal-reads.Learnt) (visit-state-at t) visit-state-reads.Post
 visit-state-element-write-marks t c = omega (arith, c .before .before .before .pre .1 .1, c .before .before .before .pre .1 .0 .walkable .ready .states-high)
 
-visit-state-mul-picked : (t : nat.ℕ) → visit-state-lts.Need-mul-picked (picked-reads.Asked, picked-reads.Learnt, visit-outcomes-below t, visit-outcomes-reads.Post, is-goal-reads.Asked, is-goal-reads.Learnt) (visit-state-at t) visit-state-reads.Post
+visit-state-mul-picked : (t : nat.ℕ) → visit-state-lts.Need-mul-picked (picked-reads.Asked, picked-reads.Learnt, visit-outcomes-below t, visit-outcomes-reads.Post, no-goal-reads.Asked, no-goal-reads.Learnt) (visit-state-at t) visit-state-reads.Post
 visit-state-mul-picked t c = omega (arith, c .before .before .before .pre .1 .1, c .before .before .before .pre .1 .0 .walkable .ready .states-high)
 
-visit-state-shared-slice-read-picked : (t : nat.ℕ) → visit-state-lts.Need-shared-slice-read-picked (picked-reads.Asked, picked-reads.Learnt, visit-outcomes-below t, visit-outcomes-reads.Post, is-goal-reads.Asked, is-goal-reads.Learnt) (visit-state-at t) visit-state-reads.Post
+visit-state-shared-slice-read-picked : (t : nat.ℕ) → visit-state-lts.Need-shared-slice-read-picked (picked-reads.Asked, picked-reads.Learnt, visit-outcomes-below t, visit-outcomes-reads.Post, no-goal-reads.Asked, no-goal-reads.Learnt) (visit-state-at t) visit-state-reads.Post
 visit-state-shared-slice-read-picked t c = omega (arith, c .before .before .before .before .pre .1 .1, c .before .before .before .before .pre .1 .0 .picks-long)
 
-visit-state-cast-picked : (t : nat.ℕ) → visit-state-lts.Need-cast-picked (picked-reads.Asked, picked-reads.Learnt, visit-outcomes-below t, visit-outcomes-reads.Post, is-goal-reads.Asked, is-goal-reads.Learnt) (visit-state-at t) visit-state-reads.Post
+visit-state-cast-picked : (t : nat.ℕ) → visit-state-lts.Need-cast-picked (picked-reads.Asked, picked-reads.Learnt, visit-outcomes-below t, visit-outcomes-reads.Post, no-goal-reads.Asked, no-goal-reads.Learnt) (visit-state-at t) visit-state-reads.Post
 visit-state-cast-picked t c = omega (arith, c .shared-slice-known3 .given (c .before .before .before .before .args .s))
 
-visit-state-picked-requires : (t : nat.ℕ) → visit-state-lts.Need-picked-requires (picked-reads.Asked, picked-reads.Learnt, visit-outcomes-below t, visit-outcomes-reads.Post, is-goal-reads.Asked, is-goal-reads.Learnt) (visit-state-at t) visit-state-reads.Post
+visit-state-picked-requires : (t : nat.ℕ) → visit-state-lts.Need-picked-requires (picked-reads.Asked, picked-reads.Learnt, visit-outcomes-below t, visit-outcomes-reads.Post, no-goal-reads.Asked, no-goal-reads.Learnt) (visit-state-at t) visit-state-reads.Post
 visit-state-picked-requires t c κs = index-there (c .before .before .before .before .pre .1 .0 .walkable) _ (c .before .before .before .before .pre .1 .1)
 
-visit-state-visit-outcomes-requires : (t : nat.ℕ) → visit-state-lts.Need-visit-outcomes-requires (picked-reads.Asked, picked-reads.Learnt, visit-outcomes-below t, visit-outcomes-reads.Post, is-goal-reads.Asked, is-goal-reads.Learnt) (visit-state-at t) visit-state-reads.Post
+visit-state-visit-outcomes-requires : (t : nat.ℕ) → visit-state-lts.Need-visit-outcomes-requires (picked-reads.Asked, picked-reads.Learnt, visit-outcomes-below t, visit-outcomes-reads.Post, no-goal-reads.Asked, no-goal-reads.Learnt) (visit-state-at t) visit-state-reads.Post
 visit-state-visit-outcomes-requires t c κs = (
   omega (arith, c .before .before .before .before .before .before .before .pre .0, mark-left (c .before .before .before .before .before .before .before .pre .1 .0) _ (c .before .before .before .before .before .before .before .pre .1 .1) (c .before .before .before .before .before .before .before .pre .1 .2)),
   (
@@ -134,25 +136,21 @@ visit-state-visit-outcomes-requires t c κs = (
   ),
 )
 
-visit-state-is-goal-requires : (t : nat.ℕ) → visit-state-lts.Need-is-goal-requires (picked-reads.Asked, picked-reads.Learnt, visit-outcomes-below t, visit-outcomes-reads.Post, is-goal-reads.Asked, is-goal-reads.Learnt) (visit-state-at t) visit-state-reads.Post
-visit-state-is-goal-requires t c κs = (c .before .before .before .before .before .before .before .before .before .before .pre .1 .0 .walkable .ready .whole, omega (arith, c .before .before .before .before .before .before .before .before .before .before .pre .1 .1))
+visit-state-no-goal-requires : (t : nat.ℕ) → visit-state-lts.Need-no-goal-requires (picked-reads.Asked, picked-reads.Learnt, visit-outcomes-below t, visit-outcomes-reads.Post, no-goal-reads.Asked, no-goal-reads.Learnt) (visit-state-at t) visit-state-reads.Post
+visit-state-no-goal-requires t c κs = (
+  c .before .before .before .before .before .before .before .before .before .before .pre .1 .0 .walkable .ready .whole,
+  c .before .before .before .before .before .before .before .before .before .before .pre .1 .1,
+  picked-open (c .before .before .before .before .before .before .before .before .before .before .pre .1 .0 .walkable) _ (c .before .before .before .before .before .before .before .before .before .before .pre .1 .1) (c .before .before .before .before .before .before .before .before .before .before .args .picks .now) (c .before .before .before .before .before .picked .ensures),
+)
 
-visit-state-same-length : (t : nat.ℕ) → visit-state-lts.Need-same-length (picked-reads.Asked, picked-reads.Learnt, visit-outcomes-below t, visit-outcomes-reads.Post, is-goal-reads.Asked, is-goal-reads.Learnt) (visit-state-at t) visit-state-reads.Post
-visit-state-same-length t c = c .before .before .before .before .visit-outcomes .kept .1 .1 .1 .1 .0
-
-visit-state-returns : (t : nat.ℕ) → visit-state-lts.Need-returns (picked-reads.Asked, picked-reads.Learnt, visit-outcomes-below t, visit-outcomes-reads.Post, is-goal-reads.Asked, is-goal-reads.Learnt) (visit-state-at t) visit-state-reads.Post
-visit-state-returns t c =
-    over-goal (c .before .before .before .before .before .before .before .before .before .before .before .before .pre .1 .0) _ (c .before .before .before .before .before .before .before .before .before .before .before .before .pre .1 .1) (c .before .before .before .before .before .before .before .before .before .before .before .before .pre .1 .2) _ _ (c .before .before .before .before .visit-outcomes .ensures) (led t (c .before .before .before .before .before .before .before))
-    (sym (c .before .is-goal .ensures) ∙ (c .if1 .taken))
-
-visit-state-cast-list : (t : nat.ℕ) → visit-state-lts.Need-cast-list (picked-reads.Asked, picked-reads.Learnt, visit-outcomes-below t, visit-outcomes-reads.Post, is-goal-reads.Asked, is-goal-reads.Learnt) (visit-state-at t) visit-state-reads.Post
+visit-state-cast-list : (t : nat.ℕ) → visit-state-lts.Need-cast-list (picked-reads.Asked, picked-reads.Learnt, visit-outcomes-below t, visit-outcomes-reads.Post, no-goal-reads.Asked, no-goal-reads.Learnt) (visit-state-at t) visit-state-reads.Post
 visit-state-cast-list t c = omega (arith, c .before .before .before .before .before .before .before .before .before .before .before .before .pre .1 .1, room t (c .before .before .before .before), c .before .before .before .before .before .before .before .before .before .before .before .before .pre .1 .0 .walkable .ready .states-high)
 
-visit-state-mul-list : (t : nat.ℕ) → visit-state-lts.Need-mul-list (picked-reads.Asked, picked-reads.Learnt, visit-outcomes-below t, visit-outcomes-reads.Post, is-goal-reads.Asked, is-goal-reads.Learnt) (visit-state-at t) visit-state-reads.Post
+visit-state-mul-list : (t : nat.ℕ) → visit-state-lts.Need-mul-list (picked-reads.Asked, picked-reads.Learnt, visit-outcomes-below t, visit-outcomes-reads.Post, no-goal-reads.Asked, no-goal-reads.Learnt) (visit-state-at t) visit-state-reads.Post
 visit-state-mul-list t c =
     omega (arith, room t (c .before .before .before .before), c .before .before .before .before .visit-outcomes .ensures .grows, c .before .before .before .before .before .before .before .before .before .before .before .before .pre .1 .0 .walkable .ready .states-high)
 
-visit-state-slice-write-list : (t : nat.ℕ) → visit-state-lts.Need-slice-write-list (picked-reads.Asked, picked-reads.Learnt, visit-outcomes-below t, visit-outcomes-reads.Post, is-goal-reads.Asked, is-goal-reads.Learnt) (visit-state-at t) visit-state-reads.Post
+visit-state-slice-write-list : (t : nat.ℕ) → visit-state-lts.Need-slice-write-list (picked-reads.Asked, picked-reads.Learnt, visit-outcomes-below t, visit-outcomes-reads.Post, no-goal-reads.Asked, no-goal-reads.Learnt) (visit-state-at t) visit-state-reads.Post
 visit-state-slice-write-list t c =
     omega (
       arith,
@@ -162,17 +160,25 @@ visit-state-slice-write-list t c =
       c .before .before .before .before .visit-outcomes .kept .1 .1 .1 .1 .0,
     )
 
-visit-state-add-result : (t : nat.ℕ) → visit-state-lts.Need-add-result (picked-reads.Asked, picked-reads.Learnt, visit-outcomes-below t, visit-outcomes-reads.Post, is-goal-reads.Asked, is-goal-reads.Learnt) (visit-state-at t) visit-state-reads.Post
+visit-state-add-result : (t : nat.ℕ) → visit-state-lts.Need-add-result (picked-reads.Asked, picked-reads.Learnt, visit-outcomes-below t, visit-outcomes-reads.Post, no-goal-reads.Asked, no-goal-reads.Learnt) (visit-state-at t) visit-state-reads.Post
 visit-state-add-result t c =
     omega (arith, room t (c .before .before .before .before), c .before .before .before .before .visit-outcomes .ensures .grows, c .before .before .before .before .before .before .before .before .before .before .before .before .pre .1 .0 .walkable .ready .states-high)
 
-visit-state-same-length-2 : (t : nat.ℕ) → visit-state-lts.Need-same-length-2 (picked-reads.Asked, picked-reads.Learnt, visit-outcomes-below t, visit-outcomes-reads.Post, is-goal-reads.Asked, is-goal-reads.Learnt) (visit-state-at t) visit-state-reads.Post
-visit-state-same-length-2 t c = search needs
+visit-state-same-length : (t : nat.ℕ) → visit-state-lts.Need-same-length (picked-reads.Asked, picked-reads.Learnt, visit-outcomes-below t, visit-outcomes-reads.Post, no-goal-reads.Asked, no-goal-reads.Learnt) (visit-state-at t) visit-state-reads.Post
+visit-state-same-length t c = search needs
 
-visit-state-returns-2 : (t : nat.ℕ) → visit-state-lts.Need-returns-2 (picked-reads.Asked, picked-reads.Learnt, visit-outcomes-below t, visit-outcomes-reads.Post, is-goal-reads.Asked, is-goal-reads.Learnt) (visit-state-at t) visit-state-reads.Post
-visit-state-returns-2 t c =
+visit-state-returns : (t : nat.ℕ) → visit-state-lts.Need-returns (picked-reads.Asked, picked-reads.Learnt, visit-outcomes-below t, visit-outcomes-reads.Post, no-goal-reads.Asked, no-goal-reads.Learnt) (visit-state-at t) visit-state-reads.Post
+visit-state-returns t c =
     over-listed (c .before .before .before .before .before .before .before .before .before .before .before .before .pre .1 .0) _ (c .before .before .before .before .before .before .before .before .before .before .before .before .pre .1 .1) (c .before .before .before .before .before .before .before .before .before .before .before .before .pre .1 .2) _ _ (c .before .before .before .before .visit-outcomes .ensures) (led t (c .before .before .before .before .before .before .before))
-    (sym (c .before .is-goal .ensures) ∙ (c .if1 .left)) (c .before .before .before .before .visit-outcomes .kept .1 .1 .1 .1 .0)
+    (not-true _ (sym (c .before .no-goal .ensures) ∙ (c .if1 .taken))) (c .before .before .before .before .visit-outcomes .kept .1 .1 .1 .1 .0)
+
+visit-state-same-length-2 : (t : nat.ℕ) → visit-state-lts.Need-same-length-2 (picked-reads.Asked, picked-reads.Learnt, visit-outcomes-below t, visit-outcomes-reads.Post, no-goal-reads.Asked, no-goal-reads.Learnt) (visit-state-at t) visit-state-reads.Post
+visit-state-same-length-2 t c = c .before .before .before .before .visit-outcomes .kept .1 .1 .1 .1 .0
+
+visit-state-returns-2 : (t : nat.ℕ) → visit-state-lts.Need-returns-2 (picked-reads.Asked, picked-reads.Learnt, visit-outcomes-below t, visit-outcomes-reads.Post, no-goal-reads.Asked, no-goal-reads.Learnt) (visit-state-at t) visit-state-reads.Post
+visit-state-returns-2 t c =
+    over-goal (c .before .before .before .before .before .before .before .before .before .before .before .before .pre .1 .0) _ (c .before .before .before .before .before .before .before .before .before .before .before .before .pre .1 .1) (c .before .before .before .before .before .before .before .before .before .before .before .before .pre .1 .2) _ _ (c .before .before .before .before .visit-outcomes .ensures) (led t (c .before .before .before .before .before .before .before))
+    (not-false _ (sym (c .before .no-goal .ensures) ∙ (c .if1 .left)))
 
 pub +visit-outcomes+visit-state-spec : {M : Type 1} → statement M
 +visit-outcomes+visit-state-spec =
@@ -192,19 +198,19 @@ pub +visit-outcomes+visit-state-spec : {M : Type 1} → statement M
     (visit-outcomes-loop-again-2 t)
     (visit-outcomes-same-length t)
     (visit-outcomes-returns t))
-    (λ t. visit-state-lts.spec (picked-reads.Asked, picked-reads.Learnt, visit-outcomes-below t, visit-outcomes-reads.Post, is-goal-reads.Asked, is-goal-reads.Learnt) (visit-state-at t) visit-state-reads.Post
+    (λ t. visit-state-lts.spec (picked-reads.Asked, picked-reads.Learnt, visit-outcomes-below t, visit-outcomes-reads.Post, no-goal-reads.Asked, no-goal-reads.Learnt) (visit-state-at t) visit-state-reads.Post
     (visit-state-element-write-marks t)
     (visit-state-mul-picked t)
     (visit-state-shared-slice-read-picked t)
     (visit-state-cast-picked t)
     (visit-state-picked-requires t)
     (visit-state-visit-outcomes-requires t)
-    (visit-state-is-goal-requires t)
-    (visit-state-same-length t)
-    (visit-state-returns t)
+    (visit-state-no-goal-requires t)
     (visit-state-cast-list t)
     (visit-state-mul-list t)
     (visit-state-slice-write-list t)
     (visit-state-add-result t)
+    (visit-state-same-length t)
+    (visit-state-returns t)
     (visit-state-same-length-2 t)
     (visit-state-returns-2 t))
