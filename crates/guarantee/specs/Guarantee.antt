@@ -29,6 +29,7 @@ use Rattle.model.specs.Bytes.{u16At}
 use Rattle.model.specs.Encoding.{settingsOn, encode}
 use Rattle.model.specs.SetForm.{setForm, Same}
 use Rattle.guarantee.specs.Rates.{seconds-rounded, rate-cost, table-printed}
+use Rattle.guarantee.specs.Totals.{total-low}
 use Rattle.guarantee.specs.WellFormed.{well-formed}
 use Rattle.guarantee.specs.Walks.{reached-marked, walk-whole, listed-reached, listed-open, reached-listed, listed-places}
 use Rattle.guarantee.specs.Walks.{least-low, least-cheapest}
@@ -151,6 +152,11 @@ module _ (p : Problem) (v : ℕ → ℕ) (r : ℕ) where
 
   pub remainder-low : 1 ≤ p .total → rowRemainder p v r < p .total
   remainder-low some = rowRemainder-low p r some v
+
+-- and so below W in every file that questions 1 to 11 let through, whatever the table and the row
+pub file-remainder-low
+    : (f : List ℕ) → fileQuestions f ≡ passes → (v : ℕ → ℕ) (r : ℕ) → rowRemainder (problemOf f) v r < problemOf f .total
+file-remainder-low f file v r = remainder-low (problemOf f) v r (total-low (well-formed f file))
 
 -- "Each state line of `plan` ends with the remainder of its pick under the final values, 0 for `give`." Solved or spent, a state with a
 -- line (`HasLine`) gives up, and its remainder is 0, or takes one of its own rows, and its remainder is that row's (`PickLine`)
