@@ -1,10 +1,13 @@
 //! The tables that an audit takes, values and picks: as a run leaves them, and changed in many ways.
 
+use crate::damage::one_wrong_each;
+use crate::examples::{stick, with_total};
 use crate::harness::noise;
 use crate::limits::*;
 use crate::problem::Problem;
 use crate::random::Random;
 use crate::solver::{solve, Answer, OwnedTables};
+use crate::totals::FOURTHS;
 
 /// The tables that an audit takes.
 #[derive(Clone, Debug, PartialEq)]
@@ -41,6 +44,32 @@ impl Proposal {
         }
         proposal
     }
+}
+
+/// The stick with one thing wrong, beside its problem while it was whole and the tables of its run.
+pub struct WrongStick {
+    /// What is wrong with it, in words.
+    pub case: String,
+    pub file: Vec<u8>,
+    pub problem: Problem,
+    pub own: Proposal,
+}
+
+/// The stick with one thing wrong for each question, in each total, with the tables that at most so many
+/// rounds leave.
+pub fn wrong_sticks(rounds: u64) -> Vec<WrongStick> {
+    let mut sticks = Vec::new();
+    for draft in FOURTHS.map(|fourth| with_total(&stick(), fourth)) {
+        let problem = Problem::read(&draft.bytes()).expect("whole");
+        let (own, _) = Proposal::of_run(&problem, rounds);
+        sticks.extend(one_wrong_each(&draft).into_iter().map(|(refusal, file)| WrongStick {
+            case: format!("the stick in {}, wrong for {refusal:?}", draft.total()),
+            file,
+            problem: problem.clone(),
+            own: own.clone(),
+        }));
+    }
+    sticks
 }
 
 /// Changes tables in one way.

@@ -5,16 +5,16 @@
 //! `compare_audit [seed] [files]`
 
 use comparisons::audit::audit_file;
-use comparisons::damage::{damaged, one_wrong_each};
+use comparisons::damage::damaged;
 use comparisons::encode::Draft;
-use comparisons::examples::{file_p, one_state, stick, with_total};
+use comparisons::examples::{file_p, one_state, with_total};
 use comparisons::extremes::{at_limits, deep_chain};
 use comparisons::harness::{argument, noise, Tally};
 use comparisons::library::{self, asked_of_audit, asked_of_lent, ACCEPTED, ANSWER};
 use comparisons::limits::*;
 use comparisons::made::made;
 use comparisons::problem::{Problem, FILE_QUESTIONS};
-use comparisons::proposal::Proposal;
+use comparisons::proposal::{wrong_sticks, Proposal};
 use comparisons::random::Random;
 use comparisons::totals::FOURTHS;
 use std::process::ExitCode;
@@ -96,13 +96,9 @@ fn compare_draft(random: &mut Random, tally: &mut Tally, draft: &Draft) {
 /// Compares audits of the stick with one thing wrong for each question, in each total, a few times with
 /// tables of its run.
 fn compare_refused(random: &mut Random, tally: &mut Tally) {
-    for draft in FOURTHS.map(|fourth| with_total(&stick(), fourth)) {
-        let problem = Problem::read(&draft.bytes()).expect("whole");
-        let (own, _) = Proposal::of_run(&problem, MOST_ROUNDS);
-        for (refusal, file) in one_wrong_each(&draft) {
-            tally.case = format!("the stick in {}, wrong for {refusal:?}", draft.total());
-            (0..TIMES).for_each(|_| compare(random, tally, &file, &own));
-        }
+    for wrong in wrong_sticks(MOST_ROUNDS) {
+        tally.case = wrong.case;
+        (0..TIMES).for_each(|_| compare(random, tally, &wrong.file, &wrong.own));
     }
 }
 

@@ -6,7 +6,7 @@
 //! `compare_following [seed] [files]`
 
 use comparisons::audit::{pick_of, reached_states, Pick};
-use comparisons::damage::{damaged, one_wrong_each};
+use comparisons::damage::damaged;
 use comparisons::encode::Draft;
 use comparisons::examples::{file_p, one_state, p_with_penalty, stick, with_total};
 use comparisons::extremes::{at_limits, deep_chain};
@@ -19,7 +19,7 @@ use comparisons::limits::*;
 use comparisons::loads::LOADS;
 use comparisons::made::made;
 use comparisons::problem::{Outcome, Problem, FILE_QUESTIONS};
-use comparisons::proposal::{change_pick, Proposal};
+use comparisons::proposal::{change_pick, wrong_sticks, Proposal, WrongStick};
 use comparisons::random::Random;
 use comparisons::totals::{any_fourth, FOURTHS};
 use std::process::ExitCode;
@@ -350,14 +350,10 @@ fn compare_draft(random: &mut Random, tally: &mut Tally, draft: &Draft) {
 /// Compares openings and reports on the stick with one thing wrong for each question, in each total, a
 /// few times with the tables of its run.
 fn compare_refused(random: &mut Random, tally: &mut Tally) {
-    for draft in FOURTHS.map(|fourth| with_total(&stick(), fourth)) {
-        let problem = Problem::read(&draft.bytes()).expect("whole");
-        let (own, _) = Proposal::of_run(&problem, MOST_ROUNDS);
-        for (refusal, file) in one_wrong_each(&draft) {
-            tally.case = format!("the stick in {}, wrong for {refusal:?}", draft.total());
-            let plan = Plan { file: &file, tables: &own };
-            (0..TIMES).for_each(|_| compare_both(random, tally, &plan, &problem, &own));
-        }
+    for WrongStick { case, file, problem, own } in wrong_sticks(MOST_ROUNDS) {
+        tally.case = case;
+        let plan = Plan { file: &file, tables: &own };
+        (0..TIMES).for_each(|_| compare_both(random, tally, &plan, &problem, &own));
     }
 }
 

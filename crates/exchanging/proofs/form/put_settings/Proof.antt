@@ -1,8 +1,6 @@
 -- `put_settings` puts the count and the settings one after the other: three, or four where the total is not 1,000.
 -- Made by `places make` from answers/form/put_settings.ans: edit that file, and not this one.
-use Prim.Native.Nat.{_≤_}
-use lib.ListN.{length}
-use mathlib.Core.Path.{_≡_, _∙_, sym, ap, ap₂}
+use mathlib.Core.Path.{_≡_, _∙_, ap, ap₂}
 use mathlib.Core.List.{_++_}
 use Rattle.model.specs.Bytes.{numberBytes}
 use Rattle.model.specs.Encoding.{settingNumber}
