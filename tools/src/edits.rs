@@ -29,7 +29,7 @@ pub fn check(repo: &Repo, names: &[&str]) -> Outcome<()> {
 }
 
 /// The edits of a crate, in order.
-fn edits(folder: &Path) -> Vec<PathBuf> {
+pub fn edits(folder: &Path) -> Vec<PathBuf> {
     let below = folder.join("must-fail");
     let is_edit = |f: &PathBuf| {
         let name = f.file_name().and_then(|n| n.to_str()).unwrap_or("");

@@ -4,6 +4,7 @@ mod answers;
 mod crate_files;
 mod edits;
 mod expand;
+mod logs;
 mod loops;
 mod lts;
 mod make;
@@ -26,6 +27,7 @@ const USAGE: &str = "usage: places make NAME [F..]      make crates/NAME/proofs/
                                   whose stamp in .ci/made is right is passed over
        places stamp [NAME..]      check, and write the stamps of the crates that pass
        places edits [NAME..]      say which must-fail edits no longer apply
+       places logs [NAME..]       say which must-fail edits show no fact that fails, by the logs of `rt must-fail` or `rt ci`
        places show NAME F [NEED]  the needs of F, and what may stand after @ in the answer of each
        places start NAME F        print an answers file to start from
 F is a folder below proofs/: count, inner/count, or for a cycle of calls +even+odd";
@@ -40,6 +42,7 @@ fn main() -> ExitCode {
         ["check", ref names @ ..] => Repo::find().and_then(|r| crate_files::check_files(&r, names)),
         ["stamp", ref names @ ..] => Repo::find().and_then(|r| crate_files::stamp_files(&r, names)),
         ["edits", ref names @ ..] => Repo::find().and_then(|r| edits::check(&r, names)),
+        ["logs", ref names @ ..] => Repo::find().and_then(|r| logs::check(&r, names)),
         ["show", name, f] => {
             Repo::find().and_then(|r| show::show(&r.unit(name, f)?, None)).and_then(print)
         }

@@ -14,11 +14,12 @@ macro_rules! sources {
 }
 
 /// The sources that this very tool was built from, all but its tests.
-const SOURCES: [(&str, &str); 15] = sources![
+const SOURCES: [(&str, &str); 16] = sources![
     "answers.rs",
     "crate_files.rs",
     "edits.rs",
     "expand.rs",
+    "logs.rs",
     "loops.rs",
     "lts.rs",
     "main.rs",
