@@ -1,13 +1,22 @@
 /* The C interface of Cuulipso (target/staticlib/libcapi.a, made by `rt staticlib capi`).
  *
  * A table is lent as a pointer and its number of entries. Any bytes and any tables get an answer; nothing is read or written past an
- * end, nothing is kept after a call, and no memory is allocated. Calls on tables of their own may run at the same time. The lent tables
- * of one call must not overlap, and a pointer may be anything only where its number of entries is 0. */
+ * end, nothing is kept after a call, and no memory is allocated. Calls on tables of their own may run at the same time.
+ *
+ * What the caller sees to: the tables, the file, the answer and the record that are lent to one call do not overlap; each is aligned as
+ * an array of its entries is, a file to any byte; a pointer may be anything only where its number of entries is 0.
+ *
+ * Stack, measured on the deepest file (docs/MEASURED.md): 176 KiB. A thread may have less than the main program, so give one that
+ * makes these calls 256 KiB. */
 #ifndef CUULIPSO_H
 #define CUULIPSO_H
 
 #include <stddef.h>
 #include <stdint.h>
+
+#ifdef __cplusplus
+extern "C" {
+#endif
 
 /* What the functions return. */
 enum {
@@ -51,10 +60,10 @@ uint8_t cuulipso_audit(const uint8_t *file, size_t file_length,
                        int64_t *answer, size_t answer_length);
 
 /* Writes a problem file's set form at the front of out: the same problem with each row's outcomes by rising successor, repeats added
- * together, all costs in seconds, and no fourth setting where it is 1,000. Two accepted files have equal set forms exactly when they say the same problem: the same settings,
- * estimates, goals, number of rows at each state and row costs, and the same total chance from each row to each state. After questions
- * 1 to 11 the call meets 23, place 0, where out is shorter than the form; an output as long as the file is always enough. The rest of
- * out stays, and on a refusal nothing is written there. */
+ * together, all costs in seconds, and no fourth setting where it is 1,000. Two accepted files have equal set forms exactly when they say
+ * the same problem: the same settings, estimates, goals, number of rows at each state and row costs, and the same total chance from each
+ * row to each state. After questions 1 to 11 the call meets 23, place 0, where out is shorter than the form; an output as long as the file
+ * is always enough. The rest of out stays, and on a refusal nothing is written there. */
 uint8_t cuulipso_set_form(const uint8_t *file, size_t file_length,
                           uint8_t *out, size_t out_length,
                           uint64_t *answer, size_t answer_length);
@@ -87,5 +96,9 @@ uint8_t cuulipso_report(const uint8_t *file, size_t file_length,
                         const uint16_t *picks, size_t picks_length,
                         uint64_t outcome, struct cuulipso_record *record,
                         int64_t *answer, size_t answer_length);
+
+#ifdef __cplusplus
+}
+#endif
 
 #endif

@@ -3,33 +3,18 @@
  *     gcc -O2 -Iexamples/c examples/c/follow.c target/staticlib/libcapi.a -o follow
  *     ./follow examples/P 0 0 0 */
 #include "cuulipso.h"
+#include "problem_file.h"
 
 #include <inttypes.h>
 #include <stdio.h>
 #include <stdlib.h>
 
-/* Longer than any file that passes. */
-enum { FILE_ROOM = 65536 };
 #define ROUNDS UINT64_C(1000000)
 
-static uint8_t file[FILE_ROOM];
-static size_t file_length;
 static uint32_t values[CUULIPSO_STATES];
 static uint16_t picks[CUULIPSO_STATES];
 static struct cuulipso_record record;
 static int64_t answer[CUULIPSO_ANSWER];
-
-/* Reads the file of a name; 0 where that fails. */
-static int read_file(const char *name)
-{
-    FILE *from = fopen(name, "rb");
-    if (from == NULL)
-        return 0;
-    file_length = fread(file, 1, FILE_ROOM, from);
-    int good = !ferror(from);
-    fclose(from);
-    return good;
-}
 
 /* Solves the file. Where it is refused, or the run is spent, the opening will tell. */
 static void solve(void)
@@ -66,10 +51,12 @@ static int print(uint8_t code)
 
 int main(int count, char **words)
 {
-    if (count < 2 || !read_file(words[1])) {
+    if (count < 2) {
         fprintf(stderr, "follow: give the name of a problem file, and outcomes\n");
         return 1;
     }
+    if (!read_file("follow", words[1]))
+        return 1;
     solve();
     if (!print(open_follower()))
         return 0;

@@ -3,32 +3,17 @@
  *     gcc -O2 -Iexamples/c examples/c/plan_and_audit.c target/staticlib/libcapi.a -o plan_and_audit
  *     ./plan_and_audit examples/P */
 #include "cuulipso.h"
+#include "problem_file.h"
 
 #include <inttypes.h>
 #include <stdio.h>
 
-/* Longer than any file that passes. */
-enum { FILE_ROOM = 65536 };
 #define ROUNDS UINT64_C(1000000)
 
-static uint8_t file[FILE_ROOM];
-static size_t file_length;
 static uint32_t values[CUULIPSO_STATES];
 static uint16_t picks[CUULIPSO_STATES];
 static uint32_t remembered[CUULIPSO_ROWS];
 static uint16_t walk[CUULIPSO_STATES];
-
-/* Reads the file of a name; 0 where that fails. */
-static int read_file(const char *name)
-{
-    FILE *from = fopen(name, "rb");
-    if (from == NULL)
-        return 0;
-    file_length = fread(file, 1, FILE_ROOM, from);
-    int good = !ferror(from);
-    fclose(from);
-    return good;
-}
 
 /* Puts questions 1 to 11; 1 where the file passes. */
 static int check(void)
@@ -81,10 +66,12 @@ static void audit(void)
 
 int main(int count, char **words)
 {
-    if (count != 2 || !read_file(words[1])) {
+    if (count != 2) {
         fprintf(stderr, "plan_and_audit: give the name of a problem file\n");
         return 1;
     }
+    if (!read_file("plan_and_audit", words[1]))
+        return 1;
     for (size_t at = 0; at < CUULIPSO_STATES; at++)
         walk[at] = CUULIPSO_NO_STATE;
     if (!check())

@@ -3,28 +3,13 @@
  *     gcc -O2 -Iexamples/c examples/c/set_form.c target/staticlib/libcapi.a -o set_form
  *     ./set_form examples/P > P.form */
 #include "cuulipso.h"
+#include "problem_file.h"
 
 #include <inttypes.h>
 #include <stdio.h>
 
-/* Longer than any file that passes, and so than any set form. */
-enum { FILE_ROOM = 65536 };
-
-static uint8_t file[FILE_ROOM];
-static size_t file_length;
+/* A set form is never longer than its file. */
 static uint8_t form[FILE_ROOM];
-
-/* Reads the file of a name; 0 where that fails. */
-static int read_file(const char *name)
-{
-    FILE *from = fopen(name, "rb");
-    if (from == NULL)
-        return 0;
-    file_length = fread(file, 1, FILE_ROOM, from);
-    int good = !ferror(from);
-    fclose(from);
-    return good;
-}
 
 /* Writes the file's set form, or says why there is none; 1 where it is written. */
 static int write_form(void)
@@ -44,9 +29,11 @@ static int write_form(void)
 
 int main(int count, char **words)
 {
-    if (count != 2 || !read_file(words[1])) {
+    if (count != 2) {
         fprintf(stderr, "set_form: give the name of a problem file\n");
         return 1;
     }
+    if (!read_file("set_form", words[1]))
+        return 1;
     return write_form() ? 0 : 1;
 }

@@ -61,8 +61,17 @@ const SET_FORM: Example = Example {
     command: "gcc -O2 -Iexamples/c examples/c/set_form.c target/staticlib/libcapi.a",
     strict: STRICT_C,
 };
-/// The room that the examples have for a file, in bytes.
+/// The C examples, which read a file by `problem_file.h`.
+const C_EXAMPLES: [&Example; 3] = [&EXAMPLES[0], &FOLLOW, &SET_FORM];
+/// The room that the C examples have for a file, in bytes.
 const FILE_ROOM: usize = 65_536;
+/// A program in C++ that makes a call, and ends with what it returns: an empty file is refused.
+const C_PLUS_PLUS: &str =
+    "#include \"cuulipso.h\"\nint main() { uint64_t answer[CUULIPSO_ANSWER]; \
+     return cuulipso_check(nullptr, 0, answer, CUULIPSO_ANSWER); }\n";
+/// How it is compiled, from standard input.
+const COMPILED: &str =
+    "g++ -std=c++17 -Wall -Wextra -Wpedantic -Werror -Iexamples/c -x c++ - -x none target/staticlib/libcapi.a";
 /// Damaged files whose set form is asked for, in each total.
 const DAMAGED: usize = 24;
 /// How often each of the questions 1 to 11 must be met.
@@ -245,8 +254,48 @@ fn compare_forms_in(tally: &mut Tally, folder: &Folder, random: &mut Random, fou
     }
 }
 
+/// Runs the C examples on a name: nothing is printed, the message is about the name, and the status 1.
+fn compare_unread(tally: &mut Tally, folder: &Folder, name: &str, reason: &str) {
+    for Example { name: example, .. } in C_EXAMPLES {
+        tally.case = format!("the example {example} on {name}: {reason}");
+        tally.count("files that an example cannot read");
+        let path = folder.path(name);
+        let Output { status, stdout, stderr } =
+            run_to_end(Command::new(folder.path(example)).arg(&path), &[]);
+        let given = String::from_utf8_lossy(&stderr);
+        let program = if *example == "c" { "plan_and_audit" } else { example };
+        let asked = format!("{program}: {}: {reason}\n", path.display());
+        tally.hold("its message", &*given, &asked);
+        tally.hold("its output and status", &(stdout, status.code()), &(Vec::new(), Some(1)));
+    }
+}
+
+/// Names that the C examples cannot read, and a file longer than their room, which is not cut.
+fn compare_all_unread(tally: &mut Tally, folder: &Folder) {
+    compare_unread(tally, folder, "nowhere", "No such file or directory");
+    std::fs::create_dir(folder.path("folder")).expect("a folder can be made");
+    compare_unread(tally, folder, "folder", "Is a directory");
+    let mut long = stick().bytes();
+    long.resize(FILE_ROOM + 1, 0);
+    folder.put("long", Some(&long));
+    compare_unread(tally, folder, "long", "it is longer than 65,536 bytes, as no problem file is");
+}
+
+/// The header in a program in C++.
+fn compare_c_plus_plus(tally: &mut Tally, folder: &Folder) {
+    tally.case = "the header in C++".into();
+    let mut words = COMPILED.split(' ');
+    let mut compiler = Command::new(words.next().expect("a compiler"));
+    compiler.args(words).arg("-o").arg(folder.path("c++")).current_dir(TOP);
+    let Output { status, stderr, .. } = run_to_end(&mut compiler, C_PLUS_PLUS.as_bytes());
+    tally.hold("what the compiler says", &*String::from_utf8_lossy(&stderr), "");
+    tally.hold("its status", &status.code(), &Some(0));
+    let status = run_to_end(&mut Command::new(folder.path("c++")), &[]).status;
+    tally.hold("what the call returns", &status.code(), &Some(0));
+}
+
 /// Writes the set forms of the examples, and of much else in each total; and meets the refusals of an
-/// empty file, and of one that is longer than the example's room.
+/// empty file, and of one that is as long as the example's room.
 fn compare_forms(tally: &mut Tally, folder: &Folder) {
     for (name, _) in TEXTS {
         let file = std::fs::read(path(name)).expect("an example");
@@ -258,8 +307,8 @@ fn compare_forms(tally: &mut Tally, folder: &Folder) {
     }
     compare_form(tally, folder, "an empty file", &[]);
     let mut long = stick().bytes();
-    long.resize(FILE_ROOM + 1, 0);
-    compare_form(tally, folder, "a file longer than the room", &long);
+    long.resize(FILE_ROOM, 0);
+    compare_form(tally, folder, "a file as long as the room", &long);
 }
 
 /// Runs both examples on a file.
@@ -340,6 +389,8 @@ fn main() -> ExitCode {
     }
     compare_follows(&mut tally, &folder);
     compare_forms(&mut tally, &folder);
+    compare_all_unread(&mut tally, &folder);
+    compare_c_plus_plus(&mut tally, &folder);
     compare_pages(&mut tally);
     tally.close()
 }

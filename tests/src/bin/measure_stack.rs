@@ -49,6 +49,11 @@ fn check(file: &[u8]) {
     assert_eq!(code, PASSED);
 }
 
+/// The product's lookup of the start's rows.
+fn rows(file: &[u8]) {
+    assert_ne!(library::rows(file, START.state, &mut [0; ANSWER]), 0);
+}
+
 /// The product's opening of a follower.
 fn open(file: &[u8], tables: &mut OwnedTables) {
     let (OwnedTables { values, picks, .. }, mut record) = (tables, START);
@@ -82,6 +87,7 @@ fn child(function: &str, kib: &str) {
         "open" => open(&file, &mut tables),
         "report" => report(&file, &mut tables),
         "set_form" => set_form(&file),
+        "rows" => rows(&file),
         _ => check(&file),
     };
     thread.spawn(work).expect("a thread").join().expect("it ends well");
@@ -131,7 +137,7 @@ fn main() {
         assert_eq!(word, "child");
         return child(function, kib);
     }
-    for function in ["solve", "audit", "check", "open", "report", "set_form"] {
+    for function in ["solve", "audit", "check", "rows", "open", "report", "set_form"] {
         println!("cuulipso_{function}: {} KiB of stack", least(|kib| library_does(function, kib)));
     }
     let file = deepest(LARGEST).bytes();
