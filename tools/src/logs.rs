@@ -10,6 +10,8 @@ use std::time::SystemTime;
 const MISSING: [&str; 3] = ["is not in scope", "has no `Need-", "has no field"];
 /// What an error says that only follows from another.
 const FOLLOWS: &str = "was not admitted";
+/// What a note says of a function that has no proof file.
+const UNMET: &str = "it is not proved that ";
 /// As much of a message as is printed.
 const SHOWN: usize = 160;
 
@@ -79,7 +81,8 @@ fn shows_nothing(log: &str) -> Option<String> {
 }
 
 /// The errors of a log, in order: `PATH:LINE:COLUMN: error: ` and then a declaration and a message,
-/// which goes on in indented lines.
+/// which goes on in indented lines; or, of a function with no proof file, a note that begins with the
+/// place and ends with the need that is not met.
 fn faults(log: &str) -> Vec<Fault> {
     let mut found: Vec<Fault> = Vec::new();
     let mut goes_on = false;
@@ -89,6 +92,9 @@ fn faults(log: &str) -> Vec<Fault> {
             let (declaration, message) = said.split_once("`: ").unwrap_or(("", said));
             found.push(Fault { declaration: declaration.into(), message: message.into() });
             goes_on = true;
+        } else if let Some((message, need)) = unmet(line) {
+            found.push(Fault { declaration: need.into(), message: message.into() });
+            goes_on = false;
         } else if let (true, Some(more), Some(last)) =
             (goes_on, line.strip_prefix("  "), found.last_mut())
         {
@@ -99,6 +105,12 @@ fn faults(log: &str) -> Vec<Fault> {
         }
     }
     found
+}
+
+/// What a note says is not proved, and its need: `note: PATH: it is not proved that .. (`returns`)`.
+fn unmet(line: &str) -> Option<(&str, &str)> {
+    let at = line.strip_prefix("note: ")?.find(UNMET)?;
+    line["note: ".len() + at..].strip_suffix("`)")?.split_once(" (`")
 }
 
 #[cfg(test)]
@@ -112,6 +124,10 @@ mod tests {
     const NEED: &str = "p/Proof.antt:3:4: error: `mul-r`: module `Tie` has no `Need-mul-r`\n";
     const FIELD: &str =
         "p/Proof.antt:3:4: error: `again`: record `Start`\n  has no field `before`\n";
+    const NOTE: &str =
+        "note: a.rt:3:1: it is not proved that what the function ensures holds (`returns`)\n";
+    const NOTE_OF_A_CALL: &str =
+        "note: a.rt:3:1: it is not proved that a call may be made (`put-requires`)\n";
     const AFTER: &str =
         "p/Proof.antt:9:9: error: `f-spec`: `returns` was not admitted, so\nfn f: no\n";
 
@@ -132,6 +148,9 @@ mod tests {
             ([FACT, AFTER].concat(), None),
             ([CALL, FACT, AFTER].concat(), None),
             ([FACT, NEED].concat(), None),
+            ([AFTER, NOTE].concat(), None),
+            ([NOTE_OF_A_CALL, NOTE].concat(), None),
+            ([AFTER, NOTE_OF_A_CALL].concat(), Some("what a call requires")),
             ([CALL, AFTER].concat(), Some("what a call requires")),
             ([AFTER, CALL, CALL].concat(), Some("what a call requires")),
             ([NAME, FACT].concat(), Some("a name is missing: `bytes`")),
