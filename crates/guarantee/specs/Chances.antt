@@ -9,14 +9,14 @@ use mathlib.Core.Bool.{Bool, true, false}
 use mathlib.Core.List.{List, [], _∷_, map}
 use mathlib.Core.Logic.{_⊎_, inl, inr, ⊎-elim}
 use lib.Dec.{eqb}
-use lib.ListN.{length}
+use lib.ListN.{getD, length}
 use borrow.Author.Tests.{eq-eqb, ne-eqb, eqb-true, eqb-false}
 use Rattle.model.specs.Problem.{Outcome}
 use Rattle.model.specs.Search.{sumTo}
 use Rattle.model.specs.SetForm.{weightOn, weightTo, gatheredOn, gathered}
 use Rattle.model.specs.Value.{weightedSum, totalWeight}
 use Rattle.model.specs.Walk.{In, here, there}
-use Rattle.guarantee.specs.Graphs.{in-nil, in-cons}
+use Rattle.guarantee.specs.Graphs.{in-nil, in-cons, in-place}
 use Rattle.guarantee.specs.Sums.{sum-same, sum-both, sum-zero}
 use Rattle.guarantee.specs.Walks.{in-map}
 
@@ -141,6 +141,35 @@ gathered-in c i (suc k) o h = step (eqb (c i) 0) refl h (gathered-in c (suc i) k
         (λ own. rw own (omega arith, omega arith, refl, omega (arith, eqb-false (c i) 0 e)))
         (λ rest. later (ih rest))
         (in-cons j)
+
+-- the successors rise from place to place
+pub gathered-rises
+    : (c : ℕ → ℕ) (i k a b : ℕ) → a < b → b < length (map (λ (o : Outcome). o .successor) (gathered c i k))
+    → getD (map (λ (o : Outcome). o .successor) (gathered c i k)) a 0
+    < getD (map (λ (o : Outcome). o .successor) (gathered c i k)) b 0
+unfolding gathered
+gathered-rises c i zero a b l h = absurd (omega arith)
+gathered-rises c i (suc k) a b l h = step (eqb (c i) 0) a b l h (gathered-rises c (suc i) k)
+  where
+    later : List ℕ
+    later = map (λ (o : Outcome). o .successor) (gathered c (suc i) k)
+
+    above : (b : ℕ) → b < length later → i < getD later b 0
+    above b h =
+        let o = in-map (λ (o : Outcome). o .successor) (gathered c (suc i) k) (getD later b 0) (in-place later b h) in
+        omega (arith, o .2, gathered-in c (suc i) k (o .0) (o .1) .0)
+
+    with-own : Bool → List ℕ
+    with-own n = map (λ (o : Outcome). o .successor) (gatheredOn n (record { successor = i; weight = c i }) (gathered c (suc i) k))
+
+    step
+        : (n : Bool) (a b : ℕ) → a < b → b < length (with-own n)
+        → ((a b : ℕ) → a < b → b < length later → getD later a 0 < getD later b 0)
+        → getD (with-own n) a 0 < getD (with-own n) b 0
+    step true a b l h ih = ih a b l h
+    step false a zero l h ih = absurd (omega arith)
+    step false zero (suc b) l h ih = above b (omega arith)
+    step false (suc a) (suc b) l h ih = ih a b (omega arith) (omega arith)
 
 gathered-before : (c : ℕ → ℕ) (i k t : ℕ) → t < i → weightTo (gathered c i k) t ≡ 0
 gathered-before c i k t l = step (decLe 1 (weightTo (gathered c i k) t))

@@ -6,7 +6,7 @@ use native.Mathlib.Omega.{arith}
 use mathlib.Core.List.{List}
 use mathlib.Core.Bool.{Bool, true, false}
 use lib.Dec.{eqb}
-use lib.ListN.{length, drop}
+use lib.ListN.{getD, length, drop}
 use borrow.Author.Tests.{eqb-false}
 use Rattle.model.specs.Audit.{audit}
 use Rattle.model.specs.Bytes.{u16At}
@@ -14,12 +14,14 @@ use Rattle.model.specs.Encoding.{settingsOn, settingNumber, outcomesTo}
 use Rattle.model.specs.Limits.{minSettings, thousandths, maxOutcomes}
 use Rattle.model.specs.Problem.{Problem, Outcome}
 use Rattle.model.specs.Questions.{passes, fileQuestions}
-use Rattle.model.specs.Sections.{settingOf, totalOn, outcomesAt, outcomeCountOf, outcomeAt, problemOf}
+use Rattle.model.specs.Sections.{settingOf, totalOn, outcomesAt, kindOf, outcomeCountOf, outcomeAt, problemOf}
 use Rattle.model.specs.SetForm.{weightTo, chance, gathered, inSetForm, setForm, Same}
 use Rattle.model.specs.Value.{weightedSum, rowTicks, rowValue, rowRemainder}
+use Rattle.model.specs.Walk.{In, successors}
 use Rattle.guarantee.specs.Chances.{LeadsBelow, weighted-by-chance, gathered-in, gathered-chance}
-use Rattle.guarantee.specs.Chances.{gathered-same, gathered-few, gathered-total}
-use Rattle.guarantee.specs.Encodings.{Encodable, Says, settings-on-high, settings-count, encode-length, encode-reads, encode-same}
+use Rattle.guarantee.specs.Chances.{gathered-rises, gathered-same, gathered-few, gathered-total}
+use Rattle.guarantee.specs.Encodings.{Encodable, Says, settings-on-high, settings-count, row-read, encode-length, encode-reads}
+use Rattle.guarantee.specs.Encodings.{encode-same}
 use Rattle.guarantee.specs.Parts.{outcomes-count}
 use Rattle.guarantee.specs.Passing.{encode-passes}
 use Rattle.guarantee.specs.Sames.{same-sym, same-trans, same-rows, same-values, same-remainders, same-audits}
@@ -209,13 +211,44 @@ module _ (f : List ℕ) (h : fileQuestions f ≡ passes) where
   unfolding setForm inSetForm settingNumber
   form-count = settings-count (inSetForm (problemOf f)) form-encodable
 
+  -- what its bytes say is the problem in set form
+  form-said : Says (inSetForm (problemOf f)) (problemOf (setForm f))
+  unfolding setForm
+  form-said = encode-reads (inSetForm (problemOf f)) form-encodable
+
+  form-row : (r : ℕ) → r < problemOf (setForm f) .rows → r < problemOf f .rows
+  unfolding inSetForm
+  form-row r l = omega (arith, l, form-said .rows)
+
+  form-gathers
+      : (r : ℕ) → r < problemOf f .rows
+      → gathered (chance (problemOf f) r) 0 (problemOf f .states) ≡ problemOf (setForm f) .outcomes r
+  unfolding inSetForm
+  form-gathers = form-said .outcomes
+
+  -- every row of it has kind 0, outcomes that rise, and none with no chance
+  pub form-kinds : (r : ℕ) → r < problemOf (setForm f) .rows → kindOf (setForm f) r ≡ 0
+  unfolding setForm inSetForm
+  form-kinds r l = row-read (inSetForm (problemOf f)) form-encodable r (form-row r l) .0
+
+  pub form-rising
+      : (r : ℕ) → r < problemOf (setForm f) .rows → (i j : ℕ) → i < j → j < length (successors (problemOf (setForm f)) r)
+      → getD (successors (problemOf (setForm f)) r) i 0 < getD (successors (problemOf (setForm f)) r) j 0
+  form-rising r l =
+      rw (← form-gathers r (form-row r l)) (gathered-rises (chance (problemOf f) r) 0 (problemOf f .states))
+
+  pub form-weighs
+      : (r : ℕ) → r < problemOf (setForm f) .rows → (o : Outcome) → In o (problemOf (setForm f) .outcomes r) → 1 ≤ o .weight
+  form-weighs r l =
+      rw (← form-gathers r (form-row r l)) (λ o i. gathered-in (chance (problemOf f) r) 0 (problemOf f .states) o i .3)
+
   -- it says the same data
   pub form-says-same : Same (problemOf f) (problemOf (setForm f))
   unfolding setForm inSetForm
   form-says-same =
       let form = inSetForm (problemOf f) in
       same-trans (problemOf f) form (problemOf (setForm f)) refl (form-same (problemOf f))
-      (says-same form (problemOf (setForm f)) (encode-reads form form-encodable))
+      (says-same form (problemOf (setForm f)) form-said)
 
   -- the same row values and remainders under every table
 

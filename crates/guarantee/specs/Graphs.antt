@@ -365,7 +365,7 @@ no-dup (x ∷ l) h =
 
 -- so two places of such a list that hold the same node are one place
 
-in-place : (l : List ℕ) (i : ℕ) → i < length l → In (getD l i 0) l
+pub in-place : (l : List ℕ) (i : ℕ) → i < length l → In (getD l i 0) l
 in-place [] i h = absurd (omega arith)
 in-place (x ∷ l) zero h = here
 in-place (x ∷ l) (suc i) h = there (in-place l i (omega arith))

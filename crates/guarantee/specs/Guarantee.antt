@@ -1,6 +1,7 @@
 -- What is promised of the rules of documents 01 and 02: each sentence is quoted over the theorem that it is, and a proof is a line
--- that cites. Nothing has to be believed but the model; the statements add `Met`, `after` and `taken` below, and `Accepts`, `Takes`,
--- `Allowed`, `Beyond`, `HasLine`, `PickLine`, `machineOf`, `Encodable` and `Says` of other files.
+-- that cites. Nothing has to be believed but the model. The statements add `Met`, `after` and `taken` below and, of other files, with what
+-- these rest on: `Accepts`, with `NoUndercut` and `Marked`; `Beyond`; `HasLine` and `PickLine`; `Encodable`, with `WellFormed`; `Says`;
+-- `machineOf`; `Allowed`; `Takes`. All else that a statement names is of the model.
 use mathlib.Core.Path.{_≡_, _∙_, ap}
 use Prim.Native.Nat.{ℕ, _+_, _-_, _*_, _≤_, _<_}
 use native.Mathlib.Omega.{arith}
@@ -11,12 +12,12 @@ use lib.Dec.{eqb}
 use lib.IntN.{ℤ, pos}
 use lib.ListN.{getD, length}
 use Rattle.model.specs.Limits.{maxBudget, giveUp, noPick, maxMoves, minRate, maxRate}
-use Rattle.model.specs.Problem.{Problem, giveUpCost, ownRow}
+use Rattle.model.specs.Problem.{Problem, Outcome, giveUpCost, ownRow}
 use Rattle.model.specs.Value.{byState, weightedSum, rowTicks, rowValue, rowRemainder}
 use Rattle.model.specs.Sections.{lengthSeconds, rateSeconds, kindOf, costNumberOf, problemOf}
 use Rattle.model.specs.Questions.{passes, fails, _then_, fileQuestions}
 use Rattle.model.specs.Walk.{In, walk, Reached, successors, pickCost, leastCost}
-use Rattle.model.specs.Rounds.{Machine, scanOf, backup, backups, walked, round, machineStart, runOf, bellman}
+use Rattle.model.specs.Rounds.{Machine, scanOf, backup, backups, walked, round, machineStart, runOf, listTable, bellman}
 use Rattle.model.specs.Solution.{fine, Tables, solved, spent, refused, solutionOf, solveQuestions, solution}
 use Rattle.model.specs.Audit.{accepted, refused as audit-refused, ownPick, audit}
 use Rattle.model.specs.Following.{wayTo, waySeconds, hasOutcome, done, refused as report-refused, Report, atStart, opening, report}
@@ -30,7 +31,7 @@ use Rattle.model.specs.Encoding.{settingsOn, encode}
 use Rattle.model.specs.SetForm.{setForm, Same}
 use Rattle.guarantee.specs.Rates.{seconds-rounded, rate-cost, table-printed}
 use Rattle.guarantee.specs.Totals.{total-low}
-use Rattle.guarantee.specs.WellFormed.{well-formed}
+use Rattle.guarantee.specs.WellFormed.{well-formed, file-long}
 use Rattle.guarantee.specs.Walks.{reached-marked, walk-whole, listed-reached, listed-open, reached-listed, listed-places}
 use Rattle.guarantee.specs.Walks.{least-low, least-cheapest}
 use Rattle.guarantee.specs.Accepted.{Accepts, audit-exactly, audit-table}
@@ -45,7 +46,7 @@ use Rattle.guarantee.specs.Underway.{Underway, turn-open, underway-start
 use Rattle.guarantee.specs.Solutions.{lent-sound, solution-run, solution-ends, spent-budget, refused-by}
 use Rattle.guarantee.specs.Solutions.{never-fourteen, answer-accepted, answer-gives-up}
 use Rattle.guarantee.specs.Values.{rowValue-exact, rowRemainder-low}
-use Rattle.guarantee.specs.Listings.{HasLine, PickLine, lines-pick}
+use Rattle.guarantee.specs.Listings.{HasLine, PickLine, lines-pick, solved-list, solved-lines}
 use Rattle.guarantee.specs.Follows.{opened, opens, audit-first, opening-stays, report-stays, ended-refused, given-up-ended}
 use Rattle.guarantee.specs.Follows.{given-up-left, row-left, Takes, done-takes, takes-done}
 use Rattle.guarantee.specs.Shifts.{Came, nothing-follows, reports-came, OnTheWay, reports-underway, goal-ended}
@@ -53,7 +54,8 @@ use Rattle.guarantee.specs.Shifts.{outcome-missing, way-goes-on, moves-s
 use Rattle.guarantee.specs.Encodings.{Encodable, Says, encode-reads}
 use Rattle.guarantee.specs.Passing.{encode-passes}
 use Rattle.guarantee.specs.Forms.{form-short, forms-same, same-forms, form-passes, form-says-same, form-again, form-row-values}
-use Rattle.guarantee.specs.Forms.{form-row-remainders, form-audit, same-forms-audits, form-count}
+use Rattle.guarantee.specs.Forms.{form-row-remainders, form-audit, same-forms-audits, form-count, form-kinds, form-rising}
+use Rattle.guarantee.specs.Forms.{form-weighs}
 
 -- Demand 3: "Take any file, table V and plan that the audit accepts; e is the file's tolerance and C the least cost on the plan, both in
 -- ticks."
@@ -165,6 +167,21 @@ pub lines-name-picks
     → PickLine (problemOf f) (byState (solution f budget t .tables .values)) s (getD (solution f budget t .tables .picks) s 0)
 lines-name-picks = lines-pick
 
+-- "then for each state of the last walk, by state number": after solved the last walk is that of the picks that are left. The walk list
+-- left is its list, then 65,535s up to the number of states, then the lent entries beyond
+pub solved-leaves-the-walk
+    : (f : List ℕ) (budget : ℕ) (t : Tables) (rounds evaluations C : ℕ) → solution f budget t .answer ≡ solved rounds evaluations C
+    → solution f budget t .tables .walk-list
+    ≡ listTable (problemOf f .states) (walk (problemOf f) (byState (solution f budget t .tables .picks)) .list) (t .walk-list)
+solved-leaves-the-walk = solved-list
+
+-- and the states that stand in it, which are those that `plan` has a line for, are exactly those that the plan left comes to, goals aside
+pub solved-lists-the-plan
+    : (f : List ℕ) (budget : ℕ) (t : Tables) (rounds evaluations C : ℕ) → solution f budget t .answer ≡ solved rounds evaluations C
+    → (s : ℕ) → HasLine (problemOf f) (solution f budget t) s
+    ↔ (Reached (problemOf f) (byState (solution f budget t .tables .picks)) s × (problemOf f .goal s ≡ false))
+solved-lists-the-plan = solved-lines
+
 -- Request E5: "cost 600 × length / rate rounded up", and "the rounding rule holds for each length by one argument". With c for the cost,
 -- c × rate is at least 600 × length, and (c − 1) × rate is below it: of every length, and of every rate of at least 1
 pub rounding-rule
@@ -197,6 +214,22 @@ module _ (f : List ℕ) (file : fileQuestions f ≡ passes) where
   -- Request E7: "The set form writes count 3 if W is 1,000", and else 4
   pub form-setting-count : u16At (setForm f) 0 ≡ settingsOn (eqb (problemOf f .total) 1000)
   form-setting-count = form-count f file
+
+  -- "Costs become kind 0.", in each row, by the form's own bytes
+  pub form-kind : (r : ℕ) → r < problemOf (setForm f) .rows → kindOf (setForm f) r ≡ 0
+  form-kind = form-kinds f file
+
+  -- "Outcomes of a row stand in rising successor number, repeats added together.": as the form's bytes say them, the successor at each
+  -- place is above those at the places before it, so that none repeats
+  pub form-rises
+      : (r : ℕ) → r < problemOf (setForm f) .rows → (i j : ℕ) → i < j → j < length (successors (problemOf (setForm f)) r)
+      → getD (successors (problemOf (setForm f)) r) i 0 < getD (successors (problemOf (setForm f)) r) j 0
+  form-rises = form-rising f file
+
+  -- and no outcome of it has chance 0
+  pub form-weights
+      : (r : ℕ) → r < problemOf (setForm f) .rows → (o : Outcome) → In o (problemOf (setForm f) .outcomes r) → 1 ≤ o .weight
+  form-weights = form-weighs f file
 
   -- and it says the same problem
   pub form-says-the-same : Same (problemOf f) (problemOf (setForm f))
@@ -233,6 +266,11 @@ equal-forms-audit = same-forms-audits
 -- and its problem says these data (`Says`)
 pub encoded-reads-back : (p : Problem) → Encodable p → (fileQuestions (encode p) ≡ passes) × Says p (problemOf (encode p))
 encoded-reads-back p fits = (encode-passes p fits, encode-reads p fits)
+
+-- "values as 32-bit and picks as 16-bit numbers, .. one entry a state": a file that passes is longer than each of its tables, and so is
+-- never taken for one where only a file as long as a table is written over
+pub file-longer-than-tables : (f : List ℕ) → fileQuestions f ≡ passes → 4 * problemOf f .states < length f
+file-longer-than-tables = file-long
 
 -- Demand 1: "the first failed question of document 01 with its place, lent tables unchanged (save at 14)". The question is one of 1 to 13
 pub refusal

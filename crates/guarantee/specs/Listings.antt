@@ -1,32 +1,35 @@
 -- The states that `plan` prints a line for: each was backed up in the last round, and a backup leaves one of the state's rows or giving up.
--- By induction on the list: a backup gives its state a pick, and keeps those of the states before.
-use mathlib.Core.Path.{_≡_, refl, sym}
+-- By induction on the list: a backup gives its state a pick, and keeps those of the states before. After solved they are the reached
+-- states that are no goals, since the last round's list is the walk of the picks that it left.
+use mathlib.Core.Path.{_≡_, refl, sym, ap}
 use Prim.Native.Nat.{ℕ, zero, suc, _-_, _≤_, _<_}
 use native.Mathlib.Omega.{arith}
 use mathlib.Core.Bool.{Bool, true, false, true≢false, _||_}
 use mathlib.Core.List.{List, [], _∷_, _++_}
-use mathlib.Core.Logic.{_⊎_, inl, inr, ⊎-elim}
+use mathlib.Core.Logic.{_⊎_, inl, inr, ⊎-elim, _↔_}
 use lib.Dec.{eqb}
 use lib.ListN.{getD, length, take, drop, replicate, length-replicate}
-use borrow.Author.Tests.{eqb-true}
+use borrow.Author.Tests.{eqb-true, eq-eqb}
 use Rattle.model.specs.Limits.{giveUp, listEnd}
 use Rattle.model.specs.Problem.{Problem, ownRow}
 use Rattle.model.specs.Value.{byState, rowRemainder, pickRemainder}
 use Rattle.model.specs.Sections.{problemOf}
-use Rattle.model.specs.Walk.{In, here, there, walk}
+use Rattle.model.specs.Walk.{In, here, there, walk, Reached}
 use Rattle.model.specs.Lines.{listed, runStates}
 use Rattle.model.specs.Rounds.{Machine, Ending, solved, spent, scanOf, backup, backups, walked, round, runFrom}
 use Rattle.model.specs.Rounds.{machineStart, listTable}
-use Rattle.model.specs.Solution.{fine, Tables, Solution, solutionOf, solution}
+use Rattle.model.specs.Solution.{fine, Tables, Solution, solved as answer-solved, solutionOf, solution}
 use Rattle.guarantee.specs.WellFormed.{WellFormed, well-formed}
 use Rattle.guarantee.specs.Values.{pickRemainder-give, pickRemainder-row}
-use Rattle.guarantee.specs.Walks.{own-row}
+use Rattle.guarantee.specs.Searches.{or-right}
+use Rattle.guarantee.specs.Walks.{own-row, reached-state, listed-reached, listed-open, reached-listed, listed-number}
 use Rattle.guarantee.specs.Rows.{row-no-mark}
 use Rattle.guarantee.specs.Graphs.{in-cons, in-nil, set-entry}
 use Rattle.guarantee.specs.Choosing.{OwnPick, landed-pick}
 use Rattle.guarantee.specs.Sound.{Sound, scan-landed, backup-sound}
 use Rattle.guarantee.specs.Backups.{Open, machineOf, backup-picks, walk-opens, round-list, walked-sound, round-sound, run-keeps}
-use Rattle.guarantee.specs.Solutions.{Told, turned-down, ran, told, lent-sound, runWith}
+use Rattle.guarantee.specs.Solved.{solved-final}
+use Rattle.guarantee.specs.Solutions.{Told, turned-down, ran, told, lent-sound, lent-long, runWith, solved-by}
 
 abbrev Has : Problem → Machine → ℕ → Type 0
 Has p m s = OwnPick p s (getD (m .picks) s 0)
@@ -110,6 +113,19 @@ table-listed s n list table low h = ⊎-elim (λ i. i) padding (listed-parts s n
             let nothing : k - length (replicate k listEnd) ≡ 0 = omega (arith, length-replicate {A = ℕ} k listEnd) in
             absurd (true≢false (sym (rw nothing at h)))
 
+-- and the states of a list that has room are among them
+listed-first : (s n : ℕ) (a b : List ℕ) → length a ≤ n → In s a → listed s (take n (a ++ b)) ≡ true
+unfolding listed
+listed-first s n [] b l i = absurd (in-nil i)
+listed-first s zero (x ∷ a) b l i = absurd (omega arith)
+listed-first s (suc n) (x ∷ a) b l i =
+    ⊎-elim (λ e. rw (eq-eqb x s (sym e)) refl) (λ j. or-right (eqb x s) (listed-first s n a b (omega arith) j)) (in-cons i)
+
+table-lists
+    : (s n : ℕ) (list table : List ℕ) → length list ≤ n → In s list → listed s (take n (listTable n list table)) ≡ true
+unfolding listTable
+table-lists s n list table l i = listed-first s n list _ l i
+
 -- what the line of state s says of its pick x: it gives up, which is no row's number, with remainder 0, or takes one of the state's own
 -- rows, with that row's remainder
 pub data PickLine (p : Problem) (v : ℕ → ℕ) (s x : ℕ) : Type 0 where
@@ -156,3 +172,48 @@ module _ (f : List ℕ) (budget : ℕ) (t : Tables) where
           let start : Picked p (machineStart p (t .values) (t .picks) (t .remembered)) =
           record { sound = lent-sound f budget t file lent; has = λ s i. absurd (in-nil i) } in
           rw is (on formed (runWith f budget t) (run-picked p formed (p .tolerance) budget _ start))
+
+  -- After solved: the list left is that of the walk of the picks left, and 65,535s.
+  module _ (n e C : ℕ) (h : solution f budget t .answer ≡ answer-solved n e C) where
+    pub solved-list
+        : solution f budget t .tables .walk-list
+        ≡ listTable (problemOf f .states) (walk (problemOf f) (byState (solution f budget t .tables .picks)) .list) (t .walk-list)
+    solved-list =
+        let p = problemOf f in
+        let by = solved-by f budget t n e C h in
+        let long = lent-long p budget t (by .lent) in
+        let final = solved-final p (well-formed f (by .file)) (t .values) (t .picks) (t .remembered) (long .values-long)
+        (long .picks-long) (long .remembered-long) budget n (by .machine) (by .run) in
+        rw (by .left) (ap (λ l. listTable (p .states) l (t .walk-list)) (final .listed))
+
+    -- so the states with a line are those that the plan comes to, goals aside
+    pub solved-lines
+        : (s : ℕ) → HasLine (problemOf f) (solution f budget t) s
+        ↔ (Reached (problemOf f) (byState (solution f budget t .tables .picks)) s × (problemOf f .goal s ≡ false))
+    unfolding runStates
+    solved-lines s = rw h (rw solved-list (on, back))
+      where
+        p : Problem
+        p = problemOf f
+
+        picks : ℕ → ℕ
+        picks = byState (solution f budget t .tables .picks)
+
+        formed : WellFormed p
+        formed = well-formed f (solved-by f budget t n e C h .file)
+
+        Line : Type 0
+        Line = (s < p .states) × (listed s (take (p .states) (listTable (p .states) (walk p picks .list) (t .walk-list))) ≡ true)
+
+        on : Line → Reached p picks s × (p .goal s ≡ false)
+        on line =
+            let low : s < listEnd = omega (arith, formed .states-high, line .0) in
+            let i = table-listed s (p .states) (walk p picks .list) (t .walk-list) low (line .1) in
+            (listed-reached p formed picks s i, listed-open p formed picks s i)
+
+        back : Reached p picks s × (p .goal s ≡ false) → Line
+        back r = (
+          reached-state p formed picks s (r .0),
+          table-lists s (p .states) (walk p picks .list) (t .walk-list) (listed-number p formed picks)
+              (reached-listed p formed picks s (r .0) (r .1)),
+        )

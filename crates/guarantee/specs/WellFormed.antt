@@ -344,3 +344,10 @@ well-formed f h =
       weights = λ r l. eqb-true _ _ (and-right (outcomesObey (p .states) (p .total) (p .outcomes r)) _ (outcomes-yes f h r l));
       estimate-under = undercut-none p (p .estimate) (ask-yes 11 _ _ (asked f h .estimates));
     }
+
+-- a file has 6 bytes a state, and more
+pub file-long : (f : List ℕ) → fileQuestions f ≡ passes → 4 * problemOf f .states < length f
+unfolding problemOf
+file-long f h =
+    let sections = laid f h .sections in
+    omega (arith, sections .states-at, sections .rows-at, sections .outcomes-at, sections .end-at)
