@@ -1,7 +1,7 @@
 -- What is promised of the rules of documents 01 and 02: each sentence is quoted over the theorem that it is, and a proof is a line
 -- that cites. Nothing has to be believed but the model. The statements add `Met`, `after` and `taken` below and, of other files, with what
 -- these rest on: `Accepts`, with `NoUndercut` and `Marked`; `Beyond`; `HasLine` and `PickLine`; `Encodable`, with `WellFormed`; `Says`;
--- `machineOf`; `Allowed`; `Takes`. All else that a statement names is of the model.
+-- `machineOf`; `Allowed`; `Takes`. All else that a statement names is of the model, or of the kit.
 use mathlib.Core.Path.{_≡_, _∙_, ap}
 use Prim.Native.Nat.{ℕ, _+_, _-_, _*_, _≤_, _<_}
 use native.Mathlib.Omega.{arith}
