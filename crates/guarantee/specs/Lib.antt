@@ -39,6 +39,8 @@ pub mod Follows
 pub mod Shifts
 pub mod Guarantee
 pub mod Instances
+pub mod RoundInstances
+pub mod ShiftInstances
 pub mod Excess
 pub mod Agreeing
 pub mod TableFiles
