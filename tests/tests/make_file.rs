@@ -2,12 +2,21 @@
 
 use comparisons::examples::{file_p, path, stick};
 use comparisons::programs::Folder;
+use std::os::unix::fs::symlink;
 use std::process::{Command, Output};
 
 /// Runs the maker in a folder.
 fn make_file(folder: &Folder, words: &[&str]) -> Output {
     let mut command = Command::new(env!("CARGO_BIN_EXE_make_file"));
     command.args(words).current_dir(folder.path("")).output().expect("it runs")
+}
+
+/// Runs the maker in a folder, where a file may have no byte, as on a disk that is full.
+fn make_on_full_disk(folder: &Folder, words: &[&str]) -> Output {
+    let mut command = Command::new("sh");
+    command.args(["-c", "trap '' XFSZ; ulimit -f 0; exec \"$@\"", "sh"]);
+    command.arg(env!("CARGO_BIN_EXE_make_file")).args(words).current_dir(folder.path(""));
+    command.output().expect("it runs")
 }
 
 /// The message of a run that fails.
@@ -76,8 +85,88 @@ fn it_names_what_is_wrong() {
 #[test]
 fn it_says_what_to_type() {
     let folder = Folder::new("make-file-words");
-    for words in [&[][..], &["make"], &["make", "text"], &["show"], &["show", "a", "b"], &["a"]] {
+    folder.put("text", Some(&std::fs::read(path("P.txt")).expect("P's text")));
+    folder.put("-text", folder.get("text").as_deref());
+    for words in [
+        &[][..],
+        &["make"],
+        &["make", "text"],
+        &["make", "text", "-file"],
+        &["make", "-text", "file"],
+        &["show"],
+        &["show", "a", "b"],
+        &["show", "-text"],
+        &["a"],
+        &["--help"],
+    ] {
         let asked = "make_file: give `make TEXT FILE` or `show TEXT`\n";
         assert_eq!(fault(&folder, words), asked);
+        assert_eq!(folder.names(), ["-text", "text"]);
+    }
+    assert!(make_file(&folder, &["make", "./-text", "./-file"]).status.success());
+    assert_eq!(folder.names(), ["-file", "-text", "text"]);
+}
+
+/// What it says of a name that holds anything but a problem file.
+fn taken(name: &str) -> String {
+    format!("make_file: {name}: is there and is no problem file: it is not replaced\n")
+}
+
+/// The text, under any name and through any link, and every other file that is no problem stay.
+#[test]
+fn it_replaces_problem_files_alone() {
+    let folder = Folder::new("make-file-replaces");
+    let text = std::fs::read(path("P.txt")).expect("P's text");
+    let file = file_p().bytes();
+    let cut =
+        [&file[1..], &file[..file.len() - 1], &[&file[..], &[0]].concat(), &[]].map(<[u8]>::to_vec);
+    folder.put("text", Some(&text));
+    std::fs::create_dir(folder.path("folder")).expect("a folder can be made");
+    symlink("text", folder.path("link")).expect("a link can be made");
+    std::fs::hard_link(folder.path("text"), folder.path("same")).expect("a link can be made");
+    let standing = folder.names();
+    for name in ["text", "./text", "folder/../text", "link", "same", "folder", "/dev/null"] {
+        assert_eq!(fault(&folder, &["make", "text", name]), taken(name));
+        assert_eq!(folder.get("text"), Some(text.clone()), "{name}");
+        assert_eq!(folder.names(), standing);
+    }
+    for bytes in &cut {
+        folder.put("file", Some(bytes));
+        assert_eq!(fault(&folder, &["make", "text", "file"]), taken("file"));
+        assert_eq!(folder.get("file").as_ref(), Some(bytes));
+    }
+    for before in [None, Some(stick().bytes()), Some(file.clone())] {
+        folder.put("file", before.as_deref());
+        assert!(make_file(&folder, &["make", "text", "file"]).status.success());
+        assert_eq!(folder.get("file"), Some(file.clone()));
+    }
+}
+
+/// It writes a part file first: one of an earlier run goes, and anything else stays.
+#[test]
+fn it_writes_a_part_file_first() {
+    let folder = Folder::new("make-file-parts");
+    let (old, file) = (stick().bytes(), file_p().bytes());
+    folder.put("file", Some(&old));
+    for part in [&b"mine"[..], &file[1..]] {
+        folder.put("file.part", Some(part));
+        assert_eq!(fault(&folder, &["make", &path("P.txt"), "file"]), taken("file.part"));
+        assert_eq!(folder.get("file.part").as_deref(), Some(part));
+        assert_eq!(folder.get("file").as_ref(), Some(&old));
+    }
+    for part in [&[], &file[..]] {
+        folder.put("file", Some(&old));
+        folder.put("file.part", Some(part));
+        assert!(make_file(&folder, &["make", &path("P.txt"), "file"]).status.success());
+        assert_eq!(folder.get("file").as_ref(), Some(&file));
+        assert_eq!(folder.names(), ["file"]);
+    }
+    folder.put("file", Some(&old));
+    for name in ["file", "new"] {
+        let ended = make_on_full_disk(&folder, &["make", &path("P.txt"), name]);
+        let message = String::from_utf8(ended.stderr).expect("a text");
+        assert!(!ended.status.success() && message.starts_with(&format!("make_file: {name}: ")));
+        assert_eq!(folder.get("file").as_ref(), Some(&old));
+        assert_eq!(folder.names(), ["file"]);
     }
 }
