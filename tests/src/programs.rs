@@ -26,6 +26,12 @@ impl Said {
     }
 }
 
+/// What `plan` says of a name that holds something other than a table of so many bytes.
+pub fn taken(name: &str, bytes: usize) -> String {
+    let would = format!("which would have {bytes} bytes: it is not replaced");
+    format!("plan: {name}: is there and is no table of this file, {would}\n")
+}
+
 /// A program that stands at a path.
 pub struct Program(PathBuf);
 

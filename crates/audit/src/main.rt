@@ -2,30 +2,25 @@
 use libc::STDERR_FILENO;
 use libc::STDOUT_FILENO;
 use model::LINE_MOST;
-use model::MAX_STATES;
-use printing::table_files::PICK_BYTES;
-use printing::table_files::VALUE_BYTES;
+use printing::table_files::PICKS_ROOM;
+use printing::table_files::VALUES_ROOM;
+use programs::files::are_names;
 use programs::files::fail;
 use programs::files::read_named;
 
-// Room for the bytes of two tables of as many states as a file can have.
-const VALUES: usize = VALUE_BYTES * MAX_STATES;
-
-const PICKS: usize = PICK_BYTES * MAX_STATES;
-
-// A longer file gets the same answer as its first 65,536 bytes, and a longer table the same as its entries of states.
+// A longer file gets the same answer as its first 65,536 bytes, and a longer table the same as its entries of states (`Audits`).
 fn audit_named() {
     let mut file = io::large_buffer();
     let a = read_named(b"audit", 1, &mut file);
     if a.failed {
         return;
     }
-    let mut values = [0u8; VALUES];
+    let mut values = [0u8; VALUES_ROOM];
     let b = read_named(b"audit", 2, &mut values);
     if b.failed {
         return;
     }
-    let mut picks = [0u8; PICKS];
+    let mut picks = [0u8; PICKS_ROOM];
     let c = read_named(b"audit", 3, &mut picks);
     if c.failed {
         return;
@@ -34,14 +29,15 @@ fn audit_named() {
     let j = b.length;
     let k = c.length;
     let mut out = [0u8; LINE_MOST];
-    let n = programs::audit_line(&file[..i], &values[..j], &picks[..k], &mut out);
+    let n = programs::audit_line(&file, i, &values, j, &picks, k, &mut out);
     if !io::write_all(STDOUT_FILENO, &out[..n]) {
         fail(b"audit", b"standard output");
     }
 }
 
 fn main() {
-    if os::arg_count() == 4 {
+    let count = os::arg_count();
+    if count == 4 && are_names(count) {
         audit_named();
         return;
     }

@@ -19,7 +19,7 @@ ghost use Rattle.model.specs.Rounds;
 ghost use Rattle.backing.specs.Backable.{countBound, machine, Backable, Listed};
 
 // A round so far: the evaluations of the run, and whether a value rose or a pick changed. Where the value of a row did not fit
-// `over` is set, and that row is `row`.
+// `over` is set, and that row is `row`, which is 0 otherwise.
 pub struct Tally {
     pub count: u64,
     pub moved: bool,
@@ -78,7 +78,7 @@ fn backup(
         ≡ Rounds.backup
         (problemOf (now (file .entry))) tolerance s
         (machine (now (values .entry)) (now (picks .entry)) (now (remembered .entry)) l (t .count) (t .moved)))
-        × (r .over ≡ false) ⌝ }
+        × (r .over ≡ false) × (r .row ≡ 0) ⌝ }
 {
     let prev = picks[s];
     let before = prev as usize;
@@ -130,7 +130,7 @@ pub fn backups(
         × (Rounds.backups
         (problemOf (now file)) tolerance (take n (now list))
         (machine (now values) (now picks) (now remembered) (take n (now list)) (t .count) (t .moved)) .evaluations < countBound)
-        × (t .over ≡ false) ⌝ }
+        × (t .over ≡ false) × (t .row ≡ 0) ⌝ }
     ensures { λ r.
         ⌜ (machine
         (now (values .exit)) (now (picks .exit)) (now (remembered .exit)) (take n (now (list .entry))) (r .count) (r .moved)
@@ -138,7 +138,7 @@ pub fn backups(
         (problemOf (now (file .entry))) tolerance (take n (now (list .entry)))
         (machine
         (now (values .entry)) (now (picks .entry)) (now (remembered .entry)) (take n (now (list .entry))) (t .count) (t .moved)))
-        × (r .over ≡ false) ⌝ }
+        × (r .over ≡ false) × (r .row ≡ 0) ⌝ }
 {
     let mut tally = t;
     let mut i = 0;

@@ -1,4 +1,5 @@
-// Following a plan in the C interface. The record is lent as its four numbers: state, moves, seconds, mark.
+// Following a plan in the C interface. The record is a C struct of four numbers: state, moves, seconds, mark. A report alters it in place;
+// an opening has it as its four numbers, which is the same to a caller.
 use crate::put3_signed;
 use following::Stepped;
 use following::open_at_start;
@@ -8,9 +9,87 @@ use model::Follower;
 ghost use mathlib.Core.Path.{_≡_};
 ghost use Prim.Native.Nat.{_≤_};
 ghost use lib.ListN.{length};
+ghost use Rattle.model.specs.Answers.{followCarries};
 ghost use Rattle.model.specs.Following.{opening, report};
-ghost use Rattle.model.specs.Interface.{HandsOn, followerIn, withFollower};
-ghost use Rattle.capi.specs.Steps.{Showable, HandedOn};
+ghost use Rattle.model.specs.Interface.{HandsOn, Written, signedNumbers, followerIn};
+ghost use Rattle.capi.specs.Steps.{Showable};
+
+// What a call hands back beside the answer's table: the record, and the status.
+struct Handed {
+    follower: Follower,
+    status: u8,
+}
+
+// Hands on what an opening or a report says: 3 done, with answer state, moves, seconds; 0 refused, with question, place, excess.
+fn hand_on(s: Stepped, answer: &mut [i64]) -> Handed
+    requires { ⌜ Showable s × (3 ≤ length (now answer)) ⌝ }
+    ensures { λ r.
+        ⌜ (r .follower ≡ s .follower)
+        × Written
+        (signedNumbers (followCarries (s .answer) (s .follower))) (now (answer .entry)) (now (answer .exit)) (r .status) ⌝ }
+{
+    let w = s.follower;
+    let said = s.answer;
+    match said {
+        FollowAnswer::Done => {
+            put3_signed(answer, w.state as i64, w.moves as i64, w.seconds as i64);
+            Handed {
+                follower: w,
+                status: 3,
+            }
+        }
+        FollowAnswer::Refused {
+            question,
+            place,
+            excess,
+        } => {
+            put3_signed(answer, question as i64, place as i64, excess);
+            Handed {
+                follower: w,
+                status: 0,
+            }
+        }
+    }
+}
+
+// An opening on a record by value: 4 where `answer` has fewer than 3 entries, and then it and the record are as they were.
+fn opened(w: Follower, file: &[u8], values: &[u32], picks: &[u16], answer: &mut [i64]) -> Handed
+    ensures { λ r.
+        ⌜ HandsOn
+        (opening (now (file .entry)) (now (values .entry)) (now (picks .entry)) w)
+        w (r .follower) (now (answer .entry)) (now (answer .exit)) (r .status) ⌝ }
+{
+    if answer.len() < 3 {
+        return Handed {
+            follower: w,
+            status: 4,
+        };
+    }
+    hand_on(open_at_start(w, file, values, picks), answer)
+}
+
+// A report on a record by value: 4 as for an opening.
+fn reported(
+    w: Follower,
+    file: &[u8],
+    values: &[u32],
+    picks: &[u16],
+    outcome: u64,
+    answer: &mut [i64],
+) -> Handed
+    ensures { λ r.
+        ⌜ HandsOn
+        (report (now (file .entry)) (now (values .entry)) (now (picks .entry)) w outcome)
+        w (r .follower) (now (answer .entry)) (now (answer .exit)) (r .status) ⌝ }
+{
+    if answer.len() < 3 {
+        return Handed {
+            follower: w,
+            status: 4,
+        };
+    }
+    hand_on(step(w, file, values, picks, outcome), answer)
+}
 
 // The record in its four numbers.
 fn follower_in(from: &[u64; 4]) -> Follower
@@ -26,43 +105,13 @@ fn follower_in(from: &[u64; 4]) -> Follower
 
 // Writes a record to its four numbers.
 fn put_follower(to: &mut [u64; 4], w: Follower)
-    ensures { λ _. ⌜ now (to .exit) ≡ withFollower w (now (to .entry)) ⌝ }
+    ensures { λ _. ⌜ followerIn (now (to .exit)) ≡ w ⌝ }
 {
-    to[0] = w.state;
-    to[1] = w.moves;
-    to[2] = w.seconds;
-    to[3] = w.mark;
-}
-
-// Hands on what an opening or a report says: 3 done, with the record written and answer state, moves, seconds; 0 refused, with
-// question, place, excess, and the record as it was.
-fn hand_on(s: Stepped, follower: &mut [u64; 4], answer: &mut [i64]) -> u8
-    requires { ⌜ Showable s × (3 ≤ length (now answer)) ⌝ }
-    ensures { λ r.
-        ⌜ HandedOn
-        s (now (follower .entry)) (now (follower .exit)) (now (answer .entry)) (now (answer .exit)) r ⌝ }
-{
-    let w = s.follower;
-    let said = s.answer;
-    match said {
-        FollowAnswer::Done => {
-            put_follower(follower, w);
-            put3_signed(answer, w.state as i64, w.moves as i64, w.seconds as i64);
-            3
-        }
-        FollowAnswer::Refused {
-            question,
-            place,
-            excess,
-        } => {
-            put3_signed(answer, question as i64, place as i64, excess);
-            0
-        }
-    }
+    *to = [w.state, w.moves, w.seconds, w.mark];
 }
 
 // Opens a follower: 3 done, with answer state, moves, seconds; 0 refused, with question, place, excess, and the record stays; 4 where
-// `answer` has fewer than 3 entries, and then nothing is written. The record is four numbers: state, moves, seconds, mark.
+// `answer` has fewer than 3 entries, and then it and the record stay.
 #[no_mangle]
 pub extern "C" fn cuulipso_open(
     file: &[u8],
@@ -74,34 +123,31 @@ pub extern "C" fn cuulipso_open(
     ensures { λ r.
         ⌜ HandsOn
         (opening (now (file .entry)) (now (values .entry)) (now (picks .entry)) (followerIn (now (follower .entry))))
-        (now (follower .entry)) (now (follower .exit)) (now (answer .entry)) (now (answer .exit)) r ⌝ }
+        (followerIn (now (follower .entry))) (followerIn (now (follower .exit)))
+        (now (answer .entry)) (now (answer .exit)) r ⌝ }
 {
-    if answer.len() < 3 {
-        return 4;
-    }
-    let w = follower_in(follower);
-    hand_on(open_at_start(w, file, values, picks), follower, answer)
+    let handed = opened(follower_in(follower), file, values, picks, answer);
+    put_follower(follower, handed.follower);
+    handed.status
 }
 
-// Reports that outcome `outcome` of the pick at the record's state occurred. It answers as `cuulipso_open` does.
+// Reports that outcome `outcome` of the pick at the record's state occurred: the lent record is altered in place. It answers as
+// `cuulipso_open` does.
 #[no_mangle]
 pub extern "C" fn cuulipso_report(
     file: &[u8],
     values: &[u32],
     picks: &[u16],
     outcome: u64,
-    follower: &mut [u64; 4],
+    follower: &mut Follower,
     answer: &mut [i64],
 ) -> u8
     ensures { λ r.
         ⌜ HandsOn
-        (report
-        (now (file .entry)) (now (values .entry)) (now (picks .entry)) (followerIn (now (follower .entry))) outcome)
+        (report (now (file .entry)) (now (values .entry)) (now (picks .entry)) (now (follower .entry)) outcome)
         (now (follower .entry)) (now (follower .exit)) (now (answer .entry)) (now (answer .exit)) r ⌝ }
 {
-    if answer.len() < 3 {
-        return 4;
-    }
-    let w = follower_in(follower);
-    hand_on(step(w, file, values, picks, outcome), follower, answer)
+    let handed = reported(*follower, file, values, picks, outcome, answer);
+    *follower = handed.follower;
+    handed.status
 }

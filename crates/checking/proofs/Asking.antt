@@ -224,7 +224,7 @@ module _ {f : List ℕ} {l : Layout} (asked : RowsAsked f l) {set : Settings} (k
   module _ (bad : ℕ) (found : SettingAnswer set (l .states) bad) where
     four : settingQuestions (problemOf f) ≡ ask (settingQuestion bad) bad (leb 4 bad)
     four =
-        found (problemOf f) (sym (known .start-is)) (sym (asked .laid .states-are)) (sym (known .tolerance-is))
+        found .says (problemOf f) (sym (known .start-is)) (sym (asked .laid .states-are)) (sym (known .tolerance-is))
         (sym (known .penalty-is)) (sym (known .total-is))
 
     pub four-no : bad < 4 → settingQuestions (problemOf f) ≡ fails (settingQuestion bad) bad

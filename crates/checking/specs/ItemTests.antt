@@ -31,10 +31,10 @@ abbrev pub settingQuestion : ℕ → ℕ
 settingQuestion r = questionOn (eqb r 3)
 
 -- the first setting that question 4 or 24 refuses, or 4
-abbrev pub SettingAnswer : Settings → ℕ → ℕ → Type 0
-SettingAnswer s states r =
-    (p : Problem) → p .start ≡ s .start → p .states ≡ states → p .tolerance ≡ s .tolerance → p .penalty ≡ s .penalty → p .total ≡ s .total
-    → settingQuestions p ≡ ask (settingQuestion r) r (leb 4 r)
+pub record SettingAnswer (s : Settings) (states r : ℕ) : Type 0 where
+  pub says : (p : Problem) → p .start ≡ s .start → p .states ≡ states → p .tolerance ≡ s .tolerance → p .penalty ≡ s .penalty
+      → p .total ≡ s .total → settingQuestions p ≡ ask (settingQuestion r) r (leb 4 r)
+  pub most : r ≤ 4
 
 -- whether the state, or the row, whose bytes begin at i obeys its section
 abbrev pub stateObeysAt : List ℕ → ℕ → ℕ → Bool

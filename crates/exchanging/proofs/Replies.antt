@@ -4,10 +4,12 @@ use mathlib.Core.Path.{_≡_, refl, sym, _∙_, ap, subst}
 use Prim.Native.Nat.{ℕ, _≤_, _<_}
 use native.Mathlib.Omega.{arith}
 use mathlib.Core.List.{List}
+use lib.IntN.{pos}
 use lib.ListN.{length, getD, replicate, length-replicate}
 use borrow.Author.Tests.{le-leb, lt-leb}
-use Rattle.model.specs.Answers.{exchangedOf}
+use Rattle.model.specs.Answers.{formCarries, exchangedCarries}
 use Rattle.model.specs.Buffers.{copied}
+use Rattle.model.specs.Carried.{sized, refusal}
 use Rattle.model.specs.Encoding.{settingNumber, outcomesTo, partsTo}
 use Rattle.model.specs.Limits.{maxRows, maxOutcomes}
 use Rattle.model.specs.Promises.{Exchanges}
@@ -41,27 +43,27 @@ module _ (f out : List ℕ) where
   writes e l = rw (e, le-leb (length (setForm f)) (length out) l) refl
 
 replies
-    : {a : FormAnswer} {left : List ℕ} {said x : Exchange} → said ≡ x → exchangedOf a ≡ x .answer → left ≡ x .left
+    : {a : FormAnswer} {left : List ℕ} {said x : Exchange} → said ≡ x → formCarries a ≡ exchangedCarries (x .answer) → left ≡ x .left
     → Exchanges a left said
 replies {a} {left} e answer-is left-is =
     subst (λ s. Exchanges a left s) (sym e) (record { answer-is = answer-is; left-is = left-is })
 
 module _ (f out : List ℕ) where
   pub file-refused
-      : {a : FormAnswer} {q i : ℕ} → fileQuestions f ≡ fails q i → exchangedOf a ≡ refused q i
+      : {a : FormAnswer} {q i : ℕ} → fileQuestions f ≡ fails q i → formCarries a ≡ refusal q i (pos 0)
       → Exchanges a out (exchange f out)
   file-refused e answer = replies (stops-file f out e) answer refl
 
   pub too-short
-      : {a : FormAnswer} → fileQuestions f ≡ passes → length out < length (setForm f) → exchangedOf a ≡ refused 23 0
+      : {a : FormAnswer} → fileQuestions f ≡ passes → length out < length (setForm f) → formCarries a ≡ refusal 23 0 (pos 0)
       → Exchanges a out (exchange f out)
   too-short e l answer = replies (stops-short f out e l) answer refl
 
   pub form-written
       : {a : FormAnswer} {left : List ℕ} {n : ℕ} → fileQuestions f ≡ passes → n ≡ length (setForm f) → n ≤ length out
-      → exchangedOf a ≡ written n → left ≡ copied (setForm f) out → Exchanges a left (exchange f out)
+      → formCarries a ≡ sized n → left ≡ copied (setForm f) out → Exchanges a left (exchange f out)
   form-written e size l answer left-is =
-      replies (writes f out e (omega (arith, size))) (answer ∙ ap written size) left-is
+      replies (writes f out e (omega (arith, size))) (answer ∙ ap sized size) left-is
 
 pub accepts : (f index : List ℕ) → fileQuestions f ≡ passes → Ready f index → Accepted f index
 accepts f index passed ready = record { passed = passed; ready = ready }

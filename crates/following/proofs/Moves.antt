@@ -8,9 +8,9 @@ use lib.Dec.{leb, ltb, eqb}
 use lib.IntN.{ℤ, pos}
 use lib.ListN.{getD, length}
 use borrow.Author.Tests.{le-ltb, lt-ltb, eq-eqb, ne-eqb}
-use Rattle.model.specs.Answers.{followedOf}
+use Rattle.model.specs.Carried.{following}
 use Rattle.model.specs.Audit.{accepted, refused as audit-refused, audit}
-use Rattle.model.specs.Following.{leadsTo, moveSeconds, atEnd, inShift, hasOutcome, mayOccur, reportQuestions, done, refused}
+use Rattle.model.specs.Following.{leadsTo, moveSeconds, atEnd, inShift, hasOutcome, mayOccur, reportQuestions, refused}
 use Rattle.model.specs.Following.{Report, follow, atStart, opening, moved, report}
 use Rattle.model.specs.Limits.{giveUp, maxMoves, maxSpent}
 use Rattle.model.specs.Problem.{ownRow}
@@ -153,7 +153,7 @@ module _ {f index picks : List ℕ} (h : Followable f index picks) (w : Follower
 
         pub goes-on : c ≡ true → {left : Follower} → left ≡ moved (problemOf f) (byState picks) w o
             → (C : ℕ) → Answered FollowAnswer.Done left (reported f picks w o C)
-        goes-on t e C = rw (all-pass t) (record { answer-is = refl; left-is = e })
+        goes-on t e C = rw (all-pass t) (record { answer-is = ap following e; left-is = e })
 
 -- the audit's questions come first
 
@@ -168,12 +168,12 @@ module _ (f values picks : List ℕ) (w : Follower) {answer : FollowAnswer} {lef
     unfolding report
     report-refused o = rw (a, ← e) said
 
-  module _ {C : ℕ} (a : audit f values picks ≡ accepted C) where
-    pub opening-done : followedOf answer ≡ done → left ≡ atStart (problemOf f) → Answered answer left (opening f values picks w)
-    unfolding opening
-    opening-done e h = rw a (record { answer-is = e; left-is = h })
+  pub report-goes-on : {C : ℕ} → audit f values picks ≡ accepted C → (o : ℕ) → ((C : ℕ) → Answered answer left (reported f picks w o C))
+      → Answered answer left (report f values picks w o)
+  unfolding report
+  report-goes-on {C} a o said = rw a (said C)
 
-    pub report-goes-on : (o : ℕ) → ((C : ℕ) → Answered answer left (reported f picks w o C))
-        → Answered answer left (report f values picks w o)
-    unfolding report
-    report-goes-on o said = rw a (said C)
+pub opening-done : (f values picks : List ℕ) (w : Follower) {C : ℕ} → audit f values picks ≡ accepted C
+    → {left : Follower} → left ≡ atStart (problemOf f) → Answered FollowAnswer.Done left (opening f values picks w)
+unfolding opening
+opening-done f values picks w a h = rw a (record { answer-is = ap following h; left-is = h })

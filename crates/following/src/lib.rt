@@ -1,5 +1,5 @@
 // Following a plan through the shift: a record is opened on a file with its tables, and each report moves it on.
-// `open_at_start` and `step` take the record by value and hand it back; `report` changes it in place.
+// `open_at_start` and `step` take the record by value and hand it back.
 mod moving;
 
 use crate::moving::report_on;
@@ -10,7 +10,7 @@ use model::FollowAnswer;
 use model::Follower;
 use reading::index::INDEX;
 use reading::settings::start_of;
-ghost use Rattle.model.specs.Following.{opening, report as model-report};
+ghost use Rattle.model.specs.Following.{opening, report};
 ghost use Rattle.model.specs.Promises.{Answered};
 
 // The record after an opening or a report, and the answer.
@@ -51,7 +51,7 @@ pub fn step(w: Follower, file: &[u8], values: &[u32], picks: &[u16], outcome: u6
     ensures { λ r.
         ⌜ Answered
         (r .answer) (r .follower)
-        (model-report (now (file .entry)) (now (values .entry)) (now (picks .entry)) w outcome) ⌝ }
+        (report (now (file .entry)) (now (values .entry)) (now (picks .entry)) w outcome) ⌝ }
 {
     let mut index = [0u32; INDEX];
     let audited = audit_file(file, values, picks, &mut index);
@@ -63,22 +63,4 @@ pub fn step(w: Follower, file: &[u8], values: &[u32], picks: &[u16], outcome: u6
         return turned_down(w, question, place, excess);
     }
     report_on(w, file, &index, picks, outcome)
-}
-
-// One report on a record that is lent: it is altered in place.
-pub fn report(
-    w: &mut Follower,
-    file: &[u8],
-    values: &[u32],
-    picks: &[u16],
-    outcome: u64,
-) -> FollowAnswer
-    ensures { λ r.
-        ⌜ Answered
-        r (now (w .exit))
-        (model-report (now (file .entry)) (now (values .entry)) (now (picks .entry)) (now (w .entry)) outcome) ⌝ }
-{
-    let s = step(*w, file, values, picks, outcome);
-    *w = s.follower;
-    s.answer
 }

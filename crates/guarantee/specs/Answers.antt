@@ -6,7 +6,10 @@ use Rattle.model.specs.Questions.{Verdict, passes, fails}
 use Rattle.model.specs.Solution.{Answer, solved, spent, refused}
 use Rattle.model.specs.Audit.{Audited, accepted, refused as audit-refused}
 use Rattle.model.specs.Answers.{fileCarries, solveCarries, auditCarries, verdictCarries, answerCarries, auditedCarries}
-use Rattle.model.specs.Answers.{verdictOf, answerOf, auditedOf}
+use Rattle.model.specs.Answers.{followedCarries, exchangedCarries, verdictOf, answerOf, auditedOf}
+use Rattle.model.specs.Following.{Followed, done, refused as report-refused}
+use Rattle.model.specs.SetForm.{Exchanged, written, refused as form-refused}
+use Rattle.model.specs.declared.Follower.{Follower}
 use Rattle.model.specs.declared.FileAnswer.{FileAnswer}
 use Rattle.model.specs.declared.FileAnswer.the-variants.{Passed, Refused}
 use Rattle.model.specs.declared.SolveAnswer.{SolveAnswer}
@@ -57,6 +60,19 @@ audited-one (accepted c) (audit-refused q i z) e = let s = said-is e in cc
 audited-one (audit-refused q i z) (accepted c) e = let s = said-is e in cc
 audited-one (audit-refused q i z) (audit-refused r j z′) e = ap (λ (c : Carried). audit-refused (c .question) (c .place) (c .excess)) e
 
+pub followed-one : (a b : Followed) (v w : Follower) → followedCarries a v ≡ followedCarries b w → a ≡ b
+followed-one done done v w e = refl
+followed-one done (report-refused q i z) v w e = let s = said-is e in cc
+followed-one (report-refused q i z) done v w e = let s = said-is e in cc
+followed-one (report-refused q i z) (report-refused r j z′) v w e =
+    ap (λ (c : Carried). report-refused (c .question) (c .place) (c .excess)) e
+
+pub exchanged-one : (a b : Exchanged) → exchangedCarries a ≡ exchangedCarries b → a ≡ b
+exchanged-one (written n) (written n′) e = ap (λ (c : Carried). written (c .size)) e
+exchanged-one (written n) (form-refused q i) e = let s = said-is e in cc
+exchanged-one (form-refused q i) (written n) e = let s = said-is e in cc
+exchanged-one (form-refused q i) (form-refused r j) e = ap (λ (c : Carried). form-refused (c .question) (c .place)) e
+
 -- so a promise of what is carried is a promise of the answer
 
 pub verdict-known : (r : FileAnswer) (a : Verdict) → fileCarries r ≡ verdictCarries a → verdictOf r ≡ a
@@ -88,3 +104,7 @@ pub audited-refused : (a : Audited) → auditedCarries a .said ≡ Said.refused
     → a ≡ audit-refused (auditedCarries a .question) (auditedCarries a .place) (auditedCarries a .excess)
 audited-refused (accepted c) e = cc
 audited-refused (audit-refused q i z) e = refl
+
+pub followed-done : (a : Followed) (w : Follower) → followedCarries a w .said ≡ Said.done → a ≡ done
+followed-done done w e = refl
+followed-done (report-refused q i z) w e = cc

@@ -1,6 +1,6 @@
 -- Fixed buffers lose nothing: a front that is longer than any file that passes has the verdict of the whole file, and the audit reads
 -- the entries of states alone. A file that is cut fails by question 3 at the latest, and before it no question sees the end.
-use mathlib.Core.Path.{_≡_, refl, _∙_, ap}
+use mathlib.Core.Path.{_≡_, refl, sym, _∙_, ap}
 use Prim.Native.Nat.{ℕ, _+_, _*_, _≤_, _<_}
 use native.Mathlib.Decide.{decLe}
 use native.Mathlib.Nat.{mul-le-mul-left}
@@ -12,6 +12,7 @@ use lib.IntN.{pos}
 use lib.ListN.{length, take}
 use lib.Seq.{getD-take, take-all, length-take-le}
 use borrow.Author.Tests.{le-leb, ne-eqb}
+use Rattle.model.specs.Buffers.{ReadOf}
 use Rattle.model.specs.Bytes.{u16At}
 use Rattle.model.specs.Limits.{minSettings, maxSettings, maxStates, maxRows, maxOutcomes}
 use Rattle.model.specs.Lines.{planText, stateLines, runStates}
@@ -26,6 +27,19 @@ use Rattle.model.specs.Audit.{refused, orElse, problemAudit, audit, auditOn}
 use Rattle.guarantee.specs.WellFormed.{WellFormed, section-there, between-high, well-formed, sectioned}
 use Rattle.guarantee.specs.Agreeing.{tables-same}
 use Rattle.guarantee.specs.TableFiles.{u16-front, entries16-front, entries32-front}
+
+-- what was read of an input: where the buffer is not full it is the input, else the input begins with it
+module _ (f buffer : List ℕ) (n : ℕ) (read : ReadOf f buffer n) where
+  pub read-short : n < length buffer → f ≡ take n buffer
+  read-short l = go (decLe (length f) (length buffer))
+    where
+      go : Dec (length f ≤ length buffer) → f ≡ take n buffer
+      go (yes h) = sym (take-all (length buffer) f h) ∙ read
+      go (no h) =
+          absurd (omega (arith, ap length read, length-take-le n buffer (omega arith), length-take-le (length buffer) f (omega arith)))
+
+  pub read-full : length buffer ≤ n → take (length buffer) f ≡ buffer
+  read-full l = read ∙ take-all n buffer l
 
 -- the longest file that question 2 lets through: four counts, and each section full
 abbrev pub longestFile : ℕ
@@ -134,6 +148,21 @@ module _ (N : ℕ) (f : List ℕ) (h : longestFile < N) where
           : Front N f
           → planText (problemOf (take N f)) (solution (take N f) budget t) ≡ planText (problemOf f) (solution f budget t)
       go (whole e) = ap (λ g. planText (problemOf g) (solution g budget t)) e
+      go (cut q i e e′) = rw (e, e′) refl
+
+  -- and as many states
+  pub states-front
+      : (budget : ℕ) (t : Tables)
+      → runStates (solution (take N f) budget t .answer) (problemOf (take N f) .states)
+      ≡ runStates (solution f budget t .answer) (problemOf f .states)
+  unfolding runStates solution solutionOn fileQuestions
+  states-front budget t = go (front N f h)
+    where
+      go
+          : Front N f
+          → runStates (solution (take N f) budget t .answer) (problemOf (take N f) .states)
+          ≡ runStates (solution f budget t .answer) (problemOf f .states)
+      go (whole e) = ap (λ g. runStates (solution g budget t .answer) (problemOf g .states)) e
       go (cut q i e e′) = rw (e, e′) refl
 
   -- and its audit

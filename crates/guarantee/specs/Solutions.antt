@@ -7,7 +7,7 @@ use mathlib.Core.Bool.{true, false, true≢false}
 use mathlib.Core.List.{List}
 use lib.Dec.{leb}
 use lib.ListN.{length}
-use borrow.Author.Tests.{leb-true}
+use borrow.Author.Tests.{leb-true, le-leb}
 use Rattle.model.specs.Limits.{maxBudget, giveUp}
 use Rattle.model.specs.Problem.{Problem, giveUpCost, ownRow}
 use Rattle.model.specs.Value.{rowValue, byState}
@@ -94,6 +94,19 @@ lent-long p budget t h =
       list-long = leb-true _ _ (ask-yes 12 3 _ (then-first q₃ q₄ h₃));
       budget-high = leb-true _ _ (ask-yes 13 0 _ (then-next q₃ q₄ h₃));
     }
+
+-- and nothing else is asked
+pub lent-passes : (p : Problem) (budget : ℕ) (t : Tables) → Lent p budget t → solveQuestions p budget t ≡ passes
+unfolding solveQuestions
+lent-passes p budget t h =
+    rw (
+      le-leb _ _ (h .values-long),
+      le-leb _ _ (h .picks-long),
+      le-leb _ _ (h .remembered-long),
+      le-leb _ _ (h .list-long),
+      le-leb _ _ (h .budget-high),
+    )
+    refl
 
 -- With questions 1 to 13 answered yes.
 module _ (f : List ℕ) (budget : ℕ) (t : Tables) (file : fileQuestions f ≡ passes)

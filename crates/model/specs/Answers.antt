@@ -1,6 +1,6 @@
 -- "When an answer is an enum, a definition gives this paper's number and values for each of its cases."
 use lib.IntN.{pos}
-use Rattle.model.specs.Carried.{Said, Carried, ended, refusal}
+use Rattle.model.specs.Carried.{Said, Carried, ended, following, sized, refusal}
 use Rattle.model.specs.Questions.{Verdict, passes, fails}
 use Rattle.model.specs.Solution.{Answer, solved, spent, refused}
 use Rattle.model.specs.Audit.{Audited, accepted, refused as audit-refused}
@@ -12,6 +12,7 @@ use Rattle.model.specs.declared.SolveAnswer.the-variants.{Solved, Spent,
 use Rattle.model.specs.declared.AuditAnswer.{AuditAnswer}
 use Rattle.model.specs.declared.AuditAnswer.the-variants.{Accepted, Refused as Audit-refused}
 use Rattle.model.specs.SetForm.{Exchanged, written, refused as form-refused}
+use Rattle.model.specs.declared.Follower.{Follower}
 use Rattle.model.specs.declared.FollowAnswer.{FollowAnswer}
 use Rattle.model.specs.declared.FollowAnswer.the-variants.{Done, Refused as Report-refused}
 use Rattle.model.specs.declared.FormAnswer.{FormAnswer}
@@ -28,21 +29,20 @@ solveCarries (Solved rounds evaluations least) = ended Said.solved rounds evalua
 solveCarries (Spent rounds evaluations) = ended Said.spent rounds evaluations 0
 solveCarries (Turned-down q i) = refusal q i (pos 0)
 
--- and of the audit: "Accepted .. carries C. .. The audit's refusals carry an excess"
+-- of the audit: "Accepted .. carries C. .. The audit's refusals carry an excess",
 abbrev pub auditCarries : AuditAnswer → Carried
 auditCarries (Accepted least) = ended Said.accepted 0 0 least
 auditCarries (Audit-refused q i excess) = refusal q i excess
 
--- Of opening and reports: nothing where it is done, or the number of the question that said no, its place and its excess. The record
--- stands beside the answer
-abbrev pub followedOf : FollowAnswer → Followed
-followedOf Done = done
-followedOf (Report-refused q i excess) = report-refused q i excess
+-- of opening and reports, whose record stands beside the answer,
+abbrev pub followCarries : FollowAnswer → Follower → Carried
+followCarries Done w = following w
+followCarries (Report-refused q i excess) w = refusal q i excess
 
--- Of writing a set form: its length, or the number of the question that said no and its place
-abbrev pub exchangedOf : FormAnswer → Exchanged
-exchangedOf (Written n) = written n
-exchangedOf (Form-refused q i) = form-refused q i
+-- and of writing a set form
+abbrev pub formCarries : FormAnswer → Carried
+formCarries (Written n) = sized n
+formCarries (Form-refused q i) = refusal q i (pos 0)
 
 -- what the answers of the definitions carry
 
@@ -58,6 +58,14 @@ answerCarries (refused q i) = refusal q i (pos 0)
 abbrev pub auditedCarries : Audited → Carried
 auditedCarries (accepted least) = ended Said.accepted 0 0 least
 auditedCarries (audit-refused q i excess) = refusal q i excess
+
+abbrev pub followedCarries : Followed → Follower → Carried
+followedCarries done w = following w
+followedCarries (report-refused q i excess) w = refusal q i excess
+
+abbrev pub exchangedCarries : Exchanged → Carried
+exchangedCarries (written n) = sized n
+exchangedCarries (form-refused q i) = refusal q i (pos 0)
 
 -- inside a crate a code's answer is read as that of the definitions: the case of the same name
 

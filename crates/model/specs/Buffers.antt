@@ -16,6 +16,10 @@ pub record Holds (before after : List ℕ) (n : ℕ) (text : List ℕ) : Type 0 
   pub front : take n after ≡ take (length after) text
   pub rest : drop n after ≡ drop n before
 
+-- the first n bytes of a buffer were read of an input: they are all of it, or, where the buffer is full, as much as there is room for
+abbrev pub ReadOf : List ℕ → List ℕ → ℕ → Type 0
+ReadOf input buffer n = take (length buffer) input ≡ take n buffer
+
 -- room for the longest first line of `plan` and line of `audit`, and for the longest line of a state, whose number has at most 4 digits
 -- and whose remainder at most 4
 abbrev pub lineMost : ℕ

@@ -1,16 +1,21 @@
--- What an answer of document 01 carries, zeros included.
+-- What an answer of the papers carries, zeros included.
 use Prim.Native.Nat.{ℕ}
 use lib.IntN.{ℤ, pos}
+use Rattle.model.specs.declared.Follower.{Follower}
 
--- what an answer says: questions 1 to 11 all pass; "solved or spent"; "Accepted"; "A no ends the call"
+-- what an answer says: questions 1 to 11 all pass; "solved or spent"; "Accepted"; an opening or a report is done; a set form is written;
+-- "A no ends the call"
 pub data Said : Type 0 where
   passed : Said
   solved : Said
   spent : Said
   accepted : Said
+  done : Said
+  written : Said
   refused : Said
 
--- the number of the question that said no, 0 for none, and its place; rounds done, evaluations and C; the excess
+-- the number of the question that said no, 0 for none, and its place; rounds done, evaluations and C; the excess; a length; the record of
+-- a shift
 pub record Carried : Type 0 where
   pub said : Said
   pub question : ℕ
@@ -19,10 +24,15 @@ pub record Carried : Type 0 where
   pub evaluations : ℕ
   pub least : ℕ
   pub excess : ℤ
+  pub size : ℕ
+  pub shift : Follower
 
--- "The result carries solved or spent, rounds done, evaluations and C": no question, no place, no excess
-abbrev pub ended : Said → ℕ → ℕ → ℕ → Carried
-ended said rounds evaluations least =
+abbrev noShift : Follower
+noShift = record { state = 0; moves = 0; seconds = 0; mark = 0 }
+
+-- no question, no place, no excess
+abbrev carrying : Said → ℕ → ℕ → ℕ → ℕ → Follower → Carried
+carrying said rounds evaluations least size shift =
     record {
       said = said;
       question = 0;
@@ -31,7 +41,21 @@ ended said rounds evaluations least =
       evaluations = evaluations;
       least = least;
       excess = pos 0;
+      size = size;
+      shift = shift;
     }
+
+-- "The result carries solved or spent, rounds done, evaluations and C"
+abbrev pub ended : Said → ℕ → ℕ → ℕ → Carried
+ended said rounds evaluations least = carrying said rounds evaluations least 0 noShift
+
+-- E2: "The melt-room screen should show where we are."
+abbrev pub following : Follower → Carried
+following w = carrying done 0 0 0 0 w
+
+-- E6: "The call gives the set form's length."
+abbrev pub sized : ℕ → Carried
+sized size = carrying written 0 0 0 size noShift
 
 -- "A no ends the call with the number and a place"; "A refusal carries 0 for all three counts."
 abbrev pub refusal : ℕ → ℕ → ℤ → Carried
@@ -44,4 +68,6 @@ refusal question place excess =
       evaluations = 0;
       least = 0;
       excess = excess;
+      size = 0;
+      shift = noShift;
     }

@@ -6,11 +6,11 @@ use mathlib.Core.List.{List}
 use lib.Dec.{leb}
 use lib.ListN.{getD, length, set}
 use lib.IntN.{ℤ, pos}
-use Rattle.model.specs.Carried.{Said, passed, solved, spent, accepted, refused, Carried}
-use Rattle.model.specs.Answers.{answerCarries}
+use Rattle.model.specs.Carried.{Said, passed, solved, spent, accepted, done, written, refused, Carried}
+use Rattle.model.specs.Answers.{answerCarries, followedCarries, exchangedCarries}
 use Rattle.model.specs.Solution.{Tables, Solution}
-use Rattle.model.specs.Following.{Followed, done, refused as report-refused, Report}
-use Rattle.model.specs.SetForm.{Exchanged, written, refused as form-refused, Exchange}
+use Rattle.model.specs.Following.{Report}
+use Rattle.model.specs.SetForm.{Exchange}
 use Rattle.model.specs.declared.Follower.{Follower}
 
 pub record Numbers (A : Type 0) : Type 0 where
@@ -23,19 +23,21 @@ abbrev pub numbers : {A : Type 0} → ℕ → A → A → A → Numbers A
 numbers status first second third = record { status = status; first = first; second = second; third = third }
 
 -- "3 passed, with answer 0, 0, 0; 1 solved, with rounds, evaluations, C; 2 spent, with rounds, evaluations, 0; 3 accepted, with C, 0, 0;
--- 0 refused, with question, place" and a third number
+-- 3 done, with state, moves, seconds; 3 with the length, 0, 0; 0 refused, with question, place" and a third number
 abbrev pub numbersOn : {A : Type 0} → (ℕ → A) → A → Said → Carried → Numbers A
 numbersOn of third passed c = numbers 3 (of 0) (of 0) (of 0)
 numbersOn of third solved c = numbers 1 (of (c .rounds)) (of (c .evaluations)) (of (c .least))
 numbersOn of third spent c = numbers 2 (of (c .rounds)) (of (c .evaluations)) (of (c .least))
 numbersOn of third accepted c = numbers 3 (of (c .least)) (of 0) (of 0)
+numbersOn of third done c = numbers 3 (of (c .shift .state)) (of (c .shift .moves)) (of (c .shift .seconds))
+numbersOn of third written c = numbers 3 (of (c .size)) (of 0) (of 0)
 numbersOn of third refused c = numbers 0 (of (c .question)) (of (c .place)) third
 
--- check and solve: a refusal's third number is 0
+-- check, solve and a set form: a refusal's third number is 0
 abbrev pub plainNumbers : Carried → Numbers ℕ
 plainNumbers c = numbersOn (λ n. n) 0 (c .said) c
 
--- the audit: it is the excess
+-- the audit and following: it is the excess
 abbrev pub signedNumbers : Carried → Numbers ℤ
 signedNumbers c = numbersOn pos (c .excess) (c .said) c
 
@@ -56,48 +58,27 @@ pub record Written {A : Type 0} (n : Numbers A) (before after : List A) (r : ℕ
   pub status-is : r ≡ statusOn (leb 3 (length before)) n
   pub table-is : after ≡ tableOn (leb 3 (length before)) n before
 
-abbrev pub leftOn : Bool → Solution → Tables → Tables
-leftOn true s lent = s .tables
-leftOn false s lent = lent
+-- what a call leaves of something lent: where `answer` has fewer than 3 entries, what it was
+abbrev pub leftOn : {A : Type 0} → Bool → A → A → A
+leftOn true left lent = left
+leftOn false left lent = lent
 
 -- what solving hands back: the numbers, and the four tables; "4 .. and then nothing is done"
 pub record HandsBack (s : Solution) (lent left : Tables) (before after : List ℕ) (r : ℕ) : Type 0 where
   pub numbers-are : Written (plainNumbers (answerCarries (s .answer))) before after r
-  pub tables-are : left ≡ leftOn (leb 3 (length before)) s lent
+  pub tables-are : left ≡ leftOn (leb 3 (length before)) (s .tables) lent
 
--- Following (E2). "The record is a C struct of four 64-bit numbers (state, moves, seconds, mark: 0 clear, anything else set)"
+-- Following (E2). "The record is a C struct of four 64-bit numbers (state, moves, seconds, mark: 0 clear, anything else set)". An opening
+-- has it as those numbers
 abbrev pub followerIn : List ℕ → Follower
 followerIn l = record { state = getD l 0 0; moves = getD l 1 0; seconds = getD l 2 0; mark = getD l 3 0 }
 
-abbrev pub withFollower : Follower → List ℕ → List ℕ
-withFollower w l = set (three (w .state) (w .moves) (w .seconds) l) 3 (w .mark)
-
--- "3 done, with answer state, moves, seconds; 0 refused, with question, place, excess"
-abbrev pub followNumbers : Followed → Follower → Numbers ℤ
-followNumbers done w = numbers 3 (pos (w .state)) (pos (w .moves)) (pos (w .seconds))
-followNumbers (report-refused q i excess) w = numbers 0 (pos q) (pos i) excess
-
--- "A refused opening or report alters nothing."
-abbrev pub followerOn : Bool → Followed → Follower → List ℕ → List ℕ
-followerOn true done w l = withFollower w l
-followerOn true (report-refused q i excess) w l = l
-followerOn false a w l = l
-
 -- what following hands back: the numbers, and the record; "4 .. and then nothing is written"
-pub record HandsOn (r : Report) (lent left : List ℕ) (before after : List ℤ) (status : ℕ) : Type 0 where
-  pub numbers-are : Written (followNumbers (r .answer) (r .left)) before after status
-  pub record-is : left ≡ followerOn (leb 3 (length before)) (r .answer) (r .left) lent
+pub record HandsOn (r : Report) (lent left : Follower) (before after : List ℤ) (status : ℕ) : Type 0 where
+  pub numbers-are : Written (signedNumbers (followedCarries (r .answer) (r .left))) before after status
+  pub record-is : left ≡ leftOn (leb 3 (length before)) (r .left) lent
 
--- Set forms (E6): "3 with the length, 0, 0; 0 refused with question, place, 0"
-abbrev pub formNumbers : Exchanged → Numbers ℕ
-formNumbers (written n) = numbers 3 n 0 0
-formNumbers (form-refused q i) = numbers 0 q i 0
-
-abbrev pub formOn : Bool → Exchange → List ℕ → List ℕ
-formOn true e out = e .left
-formOn false e out = out
-
--- what writing a set form hands back: the numbers, and the output; where `answer` has fewer than 3 entries nothing is written
+-- what writing a set form (E6) hands back: the numbers, and the output; where `answer` has fewer than 3 entries nothing is written
 pub record HandsOut (e : Exchange) (lent left : List ℕ) (before after : List ℕ) (status : ℕ) : Type 0 where
-  pub numbers-are : Written (formNumbers (e .answer)) before after status
-  pub output-is : left ≡ formOn (leb 3 (length before)) e lent
+  pub numbers-are : Written (plainNumbers (exchangedCarries (e .answer))) before after status
+  pub output-is : left ≡ leftOn (leb 3 (length before)) (e .left) lent

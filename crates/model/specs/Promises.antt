@@ -1,5 +1,5 @@
 -- What the calls promise beyond the definitions' own answers: the clauses of the contracts of `solve`, `audit`,
--- of following and of `plan`.
+-- of following, and of the programs `plan` and `audit`.
 use mathlib.Core.Path.{_≡_}
 use Prim.Native.Nat.{ℕ, suc, _+_, _-_, _*_, _≤_}
 use mathlib.Core.Bool.{Bool, true}
@@ -9,20 +9,21 @@ use lib.ListN.{length, replicate, take}
 use Rattle.model.specs.Limits.{maxStates, maxRows, listEnd, planRounds}
 use Rattle.model.specs.Problem.{Problem}
 use Rattle.model.specs.Sections.{problemOf}
-use Rattle.model.specs.Questions.{passes, fileQuestions}
+use Rattle.model.specs.Questions.{passes, fails, fileQuestions}
 use Rattle.model.specs.Walk.{Reached}
-use Rattle.model.specs.Solution.{Tables, tables, Solution, solveQuestions, solution}
+use Rattle.model.specs.Solution.{refused, Tables, tables, Solution, solveQuestions, solution}
 use Rattle.model.specs.Audit.{accepted, audit}
 use Rattle.model.specs.Cover.{Choice, Cover, planOf, allowance, openTo}
 use Rattle.model.specs.Carried.{Said, Carried}
 use Rattle.model.specs.Following.{Report}
-use Rattle.model.specs.Answers.{answerCarries, followedOf, exchangedOf}
+use Rattle.model.specs.Answers.{answerCarries, followCarries, followedCarries, formCarries, exchangedCarries}
 use Rattle.model.specs.SetForm.{Exchange}
 use Rattle.model.specs.declared.Follower.{Follower}
 use Rattle.model.specs.declared.FollowAnswer.{FollowAnswer}
 use Rattle.model.specs.declared.FormAnswer.{FormAnswer}
-use Rattle.model.specs.Lines.{planText, runStates}
-use Rattle.model.specs.Buffers.{Holds, planRoom}
+use Rattle.model.specs.Lines.{planText, runStates, auditLine}
+use Rattle.model.specs.Buffers.{Holds}
+use Rattle.model.specs.TableFiles.{entries16, entries32}
 
 -- what a call of `solve` answers and the four tables as it leaves them are those of a solution
 pub record Leaves (carried : Carried) (t : Tables) (s : Solution) : Type 0 where
@@ -63,12 +64,12 @@ pub record ExcessFits (e q : ℕ) (z : ℤ) : Type 0 where
 
 -- what an opening or a report answers, and the record as it leaves it, are those of a definition
 pub record Answered (answer : FollowAnswer) (left : Follower) (said : Report) : Type 0 where
-  pub answer-is : followedOf answer ≡ said .answer
+  pub answer-is : followCarries answer left ≡ followedCarries (said .answer) (said .left)
   pub left-is : left ≡ said .left
 
 -- what writing a set form answers, and the output as it leaves it, are those of a definition
 pub record Exchanges (answer : FormAnswer) (left : List ℕ) (said : Exchange) : Type 0 where
-  pub answer-is : exchangedOf answer ≡ said .answer
+  pub answer-is : formCarries answer ≡ exchangedCarries (said .answer)
   pub left-is : left ≡ said .left
 
 -- "The program `plan` .. runs up to 1,000,000 rounds": with lent values and picks, and tables of its own for what is remembered and for
@@ -77,13 +78,19 @@ abbrev pub planSolution : List ℕ → List ℕ → List ℕ → Solution
 planSolution f values picks =
     solution f planRounds (tables values picks (replicate maxRows 0) (replicate maxStates listEnd))
 
--- the text was put at the front of `out`, whole where there is room for every text; the tables are those of the solution; the number of
--- states that is told is 0 after a refusal, and lies within both tables
+-- the text was put at the front of `out`, and nothing of it was cut; the tables are those of the solution; a refusal is one of questions 1
+-- to 11, none of the program's own tables or budget; the number of states that is told is 0 after a refusal, and lies within both tables
 pub record Plans (f values picks out values′ picks′ out′ : List ℕ) (size states : ℕ) : Type 0 where
   pub text : Holds out out′ size (planText (problemOf f) (planSolution f values picks))
-  pub whole : planRoom ≤ length out → take size out′ ≡ planText (problemOf f) (planSolution f values picks)
+  pub whole : take size out′ ≡ planText (problemOf f) (planSolution f values picks)
   pub values-are : values′ ≡ planSolution f values picks .tables .values
   pub picks-are : picks′ ≡ planSolution f values picks .tables .picks
+  pub refused-by : (q i : ℕ) → planSolution f values picks .answer ≡ refused q i → fileQuestions f ≡ fails q i
   pub states-are : states ≡ runStates (planSolution f values picks .answer) (problemOf f .states)
   pub values-hold : states ≤ length values′
   pub picks-hold : states ≤ length picks′
+
+-- the line of the audit of a file with the tables of two table files was put at the front of `out`, and nothing of it was cut
+pub record Audits (f values picks out out′ : List ℕ) (size : ℕ) : Type 0 where
+  pub line : Holds out out′ size (auditLine (audit f (entries32 values) (entries16 picks)))
+  pub whole : take size out′ ≡ auditLine (audit f (entries32 values) (entries16 picks))

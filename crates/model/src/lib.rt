@@ -103,7 +103,9 @@ pub enum AuditAnswer {
     },
 }
 
-// The record of a shift: the state it is in, the moves made and the seconds spent, and its mark: 0 clear, anything else set.
+// The record of a shift: the state it is in, the moves made and the seconds spent, and its mark: 0 clear, anything else set. It is the
+// struct of the C interface.
+#[repr(C)]
 pub struct Follower {
     pub state: u64,
     pub moves: u64,

@@ -1,26 +1,33 @@
 // The program `plan`: reads a problem file from standard input, runs up to 1,000,000 rounds, and prints the plan, a line for each
-// state of the last walk, by state number. With two names it also writes the tables of the run to files of these names.
+// state of the last walk, by state number. With two names it also writes the tables of the run to files of these names; names that cannot
+// take them are refused before the run.
 use libc::ENOENT;
+use libc::SEEK_CUR;
 use libc::STDERR_FILENO;
 use libc::STDIN_FILENO;
 use libc::STDOUT_FILENO;
 use model::MAX_STATES;
 use model::NO_PICK;
 use model::PLAN_ROOM;
+use printing::table_files::PICK_BYTES;
+use printing::table_files::PICKS_ROOM;
 use printing::table_files::VALUE_BYTES;
+use printing::table_files::VALUES_ROOM;
 use printing::table_files::put_picks;
 use printing::table_files::put_values;
 use printing::text::put;
+use programs::checked::states_in;
+use programs::files::are_names;
 use programs::files::fail;
 use programs::files::read_whole;
 ghost use mathlib.Core.Path.{_≡_};
 ghost use mathlib.Core.List.{_++_};
 ghost use Rattle.model.specs.Buffers.{Holds};
 ghost use Rattle.model.specs.Lines.{codes};
-ghost use Rattle.plan.specs.Names.{sameName, clashing};
+ghost use Rattle.plan.specs.Names.{sameName, clashing, takes, clears};
 
-// Room for the bytes of either table: a value has more of them than a pick.
-const TABLE: usize = VALUE_BYTES * MAX_STATES;
+// One byte more than any table has: a value has more of them than a pick.
+const LOOK: usize = VALUES_ROOM + 1;
 
 // Room for the longest argument that is read, that of `io::buffer`, and for `.part` after it.
 const NAME: usize = 4096;
@@ -40,16 +47,85 @@ fn write_closing(fd: i32, bytes: &[u8]) -> bool {
     is_written
 }
 
-// Whether a table may be put under this name: it is free, or a file that may be written. A folder or a device is not, nor is a name of
-// no bytes, which no file can have.
-fn is_free(name: &[u8]) -> bool {
-    let fd = os::open_append(name);
+// What stands under a name: nothing, a file of so many bytes, or anything else, as a folder, a pipe or a file that may not be written.
+enum There {
+    Nothing,
+    Bytes(usize),
+    Other,
+}
+
+// Looks at a name, as far as tables go: a longer file has `LOOK` bytes. Where it is anything else, errno says why. A name of no bytes, which
+// no file can have, is among these, and a pipe, which has no position.
+fn look(name: &[u8]) -> There {
+    let fd = os::open_update(name);
     if fd < 0 {
-        return os::errno() == ENOENT && 0 < name.len();
+        if os::errno() == ENOENT && 0 < name.len() {
+            return There::Nothing;
+        }
+        return There::Other;
     }
-    let is_file = libc::fsync(fd) == 0;
+    if libc::lseek(fd, 0, SEEK_CUR) < 0 {
+        libc::close(fd);
+        return There::Other;
+    }
+    let mut bytes = [0u8; LOOK];
+    let got = read_whole(fd, &mut bytes);
     libc::close(fd);
-    is_file
+    if got.failed {
+        return There::Other;
+    }
+    There::Bytes(got.length)
+}
+
+// Whether a table of so many bytes may take a name: it replaces nothing but a file that is exactly as long. A problem file is longer than
+// its tables.
+fn may_take(there: There, bytes: usize) -> bool
+    ensures { λ r. ⌜ r ≡ takes there bytes ⌝ }
+{
+    match there {
+        There::Nothing => true,
+        There::Bytes(n) => n == bytes,
+        There::Other => false,
+    }
+}
+
+// Whether a part file of an earlier run may be removed: one that is whole, or was not begun.
+fn may_clear(there: There, bytes: usize) -> bool
+    ensures { λ r. ⌜ r ≡ clears there bytes ⌝ }
+{
+    match there {
+        There::Nothing => true,
+        There::Bytes(n) => n == 0 || n == bytes,
+        There::Other => false,
+    }
+}
+
+// Says why a table of so many bytes may not take a name.
+fn refuse(name: &[u8], there: There, bytes: usize) {
+    let There::Bytes(_) = there else {
+        fail(b"plan", name);
+        return;
+    };
+    complain(b"plan: ");
+    complain(name);
+    complain(b": is there and is no table of this file, which would have ");
+    io::print_decimal(STDERR_FILENO, bytes as u64);
+    complain(b" bytes: it is not replaced\n");
+}
+
+// Whether a table of so many bytes can take this name and its part file; where not, that is said.
+fn is_free(name: &[u8], part: &[u8], bytes: usize) -> bool {
+    let there = look(name);
+    if !may_take(there, bytes) {
+        refuse(name, there, bytes);
+        return false;
+    }
+    let begun = look(part);
+    if !may_clear(begun, bytes) {
+        refuse(part, begun, bytes);
+        return false;
+    }
+    true
 }
 
 // Writes a table to its part file, which must be new. Where that fails it is said, and no part file is left.
@@ -115,41 +191,80 @@ fn do_clash(name: &[u8], part: &[u8], name2: &[u8], part2: &[u8]) -> bool
     are_equal(part, name2)
 }
 
-// Whether both names can take a table; where one cannot, that is said. Part files of an earlier run are removed.
-fn are_ready(name: &[u8], part: &[u8], name2: &[u8], part2: &[u8]) -> bool {
+// Whether both part files can be made, which is tried with empty ones; where one cannot, that is said. Those of an earlier run are removed.
+fn can_be_made(name: &[u8], part: &[u8], name2: &[u8], part2: &[u8]) -> bool {
+    os::unlink(part);
+    os::unlink(part2);
+    if !write_part(name, part, b"") {
+        return false;
+    }
+    let is_made = write_part(name2, part2, b"");
+    os::unlink(part);
+    if is_made {
+        os::unlink(part2);
+    }
+    is_made
+}
+
+// Whether two names can take tables of so many bytes; where one cannot, that is said, and nothing has changed.
+fn are_ready(
+    name: &[u8],
+    part: &[u8],
+    bytes: usize,
+    name2: &[u8],
+    part2: &[u8],
+    bytes2: usize,
+) -> bool {
     if do_clash(name, part, name2, part2) {
         complain(b"plan: VALUES and PICKS need two names\n");
         return false;
     }
-    if !is_free(name) {
-        fail(b"plan", name);
+    if !is_free(name, part, bytes) {
         return false;
     }
-    if !is_free(name2) {
-        fail(b"plan", name2);
+    if !is_free(name2, part2, bytes2) {
         return false;
     }
-    os::unlink(part);
-    os::unlink(part2);
-    true
+    can_be_made(name, part, name2, part2)
 }
 
-// Writes both part files, and gives them their names once both are whole.
+// Whether two names can take the tables of a file. A file that is refused has none.
+fn can_save(file: &[u8], values_name: &[u8], picks_name: &[u8]) -> bool {
+    let states = states_in(file);
+    if states == 0 {
+        return true;
+    }
+    let mut first = [0u8; PART];
+    let i = part_of(values_name, &mut first);
+    let mut second = [0u8; PART];
+    let j = part_of(picks_name, &mut second);
+    are_ready(
+        values_name,
+        &first[..i],
+        VALUE_BYTES * states,
+        picks_name,
+        &second[..j],
+        PICK_BYTES * states,
+    )
+}
+
+// Writes both part files, and gives them their names once both are whole. The names are looked at once more, since a run may take long.
 fn save(values_name: &[u8], values: &[u32], picks_name: &[u8], picks: &[u16]) {
     let mut first = [0u8; PART];
     let i = part_of(values_name, &mut first);
     let mut second = [0u8; PART];
     let j = part_of(picks_name, &mut second);
-    if !are_ready(values_name, &first[..i], picks_name, &second[..j]) {
+    let mut value_bytes = [0u8; VALUES_ROOM];
+    let n = put_values(values, &mut value_bytes);
+    let mut pick_bytes = [0u8; PICKS_ROOM];
+    let m = put_picks(picks, &mut pick_bytes);
+    if !are_ready(values_name, &first[..i], n, picks_name, &second[..j], m) {
         return;
     }
-    let mut bytes = [0u8; TABLE];
-    let n = put_values(values, &mut bytes);
-    if !write_part(values_name, &first[..i], &bytes[..n]) {
+    if !write_part(values_name, &first[..i], &value_bytes[..n]) {
         return;
     }
-    let m = put_picks(picks, &mut bytes);
-    if !write_part(picks_name, &second[..j], &bytes[..m]) {
+    if !write_part(picks_name, &second[..j], &pick_bytes[..m]) {
         os::unlink(&first[..i]);
         return;
     }
@@ -160,8 +275,34 @@ fn save(values_name: &[u8], values: &[u32], picks_name: &[u8], picks: &[u16]) {
     place(picks_name, &second[..j]);
 }
 
-// Writes the tables to the files that the two arguments name.
-fn save_named(values: &[u32], picks: &[u16]) {
+// A file is at most 55,320 bytes long, and a longer input gets the same answer as its first 65,536 bytes (`Plans`).
+fn plan_input(is_saving: bool, values_name: &[u8], picks_name: &[u8]) {
+    let mut file = io::large_buffer();
+    let got = read_whole(STDIN_FILENO, &mut file);
+    if got.failed {
+        fail(b"plan", b"standard input");
+        return;
+    }
+    let n = got.length;
+    if is_saving && !can_save(&file[..n], values_name, picks_name) {
+        return;
+    }
+    let mut values = [0u32; MAX_STATES];
+    let mut picks = [NO_PICK; MAX_STATES];
+    let mut out = [0u8; PLAN_ROOM];
+    let planned = programs::plan(&file, n, &mut values, &mut picks, &mut out);
+    let length = planned.length;
+    let states = planned.states;
+    if !io::write_all(STDOUT_FILENO, &out[..length]) {
+        fail(b"plan", b"standard output");
+    }
+    if is_saving && 0 < states {
+        save(values_name, &values[..states], picks_name, &picks[..states]);
+    }
+}
+
+// Plans with the two names that were given. They are looked at before the run.
+fn plan_named() {
     let mut first = io::buffer();
     let n = os::arg(1, &mut first);
     if os::errno() != 0 {
@@ -174,40 +315,17 @@ fn save_named(values: &[u32], picks: &[u16]) {
         fail(b"plan", b"PICKS");
         return;
     }
-    save(&first[..n], values, &second[..m], picks);
-}
-
-// A file is at most 55,320 bytes long, and a longer input gets the same answer as its first 65,536 bytes.
-fn plan_input(is_saving: bool) {
-    let mut file = io::large_buffer();
-    let got = read_whole(STDIN_FILENO, &mut file);
-    if got.failed {
-        fail(b"plan", b"standard input");
-        return;
-    }
-    let n = got.length;
-    let mut values = [0u32; MAX_STATES];
-    let mut picks = [NO_PICK; MAX_STATES];
-    let mut out = [0u8; PLAN_ROOM];
-    let planned = programs::plan(&file[..n], &mut values, &mut picks, &mut out);
-    let length = planned.length;
-    let states = planned.states;
-    if !io::write_all(STDOUT_FILENO, &out[..length]) {
-        fail(b"plan", b"standard output");
-    }
-    if is_saving && 0 < states {
-        save_named(&values[..states], &picks[..states]);
-    }
+    plan_input(true, &first[..n], &second[..m]);
 }
 
 fn main() {
-    let names = os::arg_count();
-    if names == 3 {
-        plan_input(true);
+    let count = os::arg_count();
+    if count == 3 && are_names(count) {
+        plan_named();
         return;
     }
-    if names < 2 {
-        plan_input(false);
+    if count < 2 {
+        plan_input(false, b"", b"");
         return;
     }
     complain(b"plan: give no names, or two: VALUES PICKS\n");

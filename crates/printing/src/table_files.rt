@@ -1,11 +1,14 @@
 // Table files: values as 32-bit and picks as 16-bit numbers, least byte first, one entry a state.
 use crate::text::put;
+use model::MAX_STATES;
 use reading::numbers::u16_at;
 use reading::numbers::u32_at;
+ghost use mathlib.Core.Path.{_≡_};
 ghost use mathlib.Core.List.{_++_};
 ghost use Prim.Native.Nat.{_≤_};
 ghost use lib.ListN.{length, take};
 ghost use Rattle.model.specs.Bytes.{numberBytes};
+ghost use Rattle.model.specs.Limits.{maxStates};
 ghost use Rattle.model.specs.TableFiles.{bytes16, bytes32, entries16, entries32};
 ghost use Rattle.model.specs.Buffers.{Holds};
 
@@ -13,6 +16,11 @@ ghost use Rattle.model.specs.Buffers.{Holds};
 pub const VALUE_BYTES: usize = 4;
 
 pub const PICK_BYTES: usize = 2;
+
+// Room for the bytes of two tables of as many states as a file can have.
+pub const VALUES_ROOM: usize = VALUE_BYTES * MAX_STATES;
+
+pub const PICKS_ROOM: usize = PICK_BYTES * MAX_STATES;
 
 // Puts a value, 4 bytes.
 fn put_value(out: &mut [u8], at: usize, x: u32) -> usize
@@ -43,8 +51,8 @@ fn put_pick(out: &mut [u8], at: usize, x: u16) -> usize
     put(out, at, &[(x % 256) as u8, (b % 256) as u8])
 }
 
-// Puts the bytes of a values table at the front of `out`, and answers how many there are.
-pub fn put_values(values: &[u32], out: &mut [u8]) -> usize
+// Puts the bytes of each entry at the front of `out`, and answers how many there are.
+fn put_each_value(values: &[u32], out: &mut [u8]) -> usize
     ensures { λ r. ⌜ Holds (now (out .entry)) (now (out .exit)) r (bytes32 (now (values .entry))) ⌝ }
 {
     let mut to = 0;
@@ -56,8 +64,17 @@ pub fn put_values(values: &[u32], out: &mut [u8]) -> usize
     to
 }
 
-// Puts the bytes of a picks table at the front of `out`, and answers how many there are.
-pub fn put_picks(picks: &[u16], out: &mut [u8]) -> usize
+// Puts the bytes of a values table at the front of `out`, and answers how many there are. Nothing is cut of a table of as many states as a
+// file can have.
+pub fn put_values(values: &[u32], out: &mut [u8; VALUES_ROOM]) -> usize
+    ensures { λ r. ⌜ Holds (now (out .entry)) (now (out .exit)) r (bytes32 (now (values .entry))) ⌝ }
+    ensures whole { λ r. ⌜ (length (now (values .entry)) ≤ maxStates → take r (now (out .exit)) ≡ bytes32 (now (values .entry))) ⌝ }
+{
+    put_each_value(values, out)
+}
+
+// Puts the bytes of each entry at the front of `out`, and answers how many there are.
+fn put_each_pick(picks: &[u16], out: &mut [u8]) -> usize
     ensures { λ r. ⌜ Holds (now (out .entry)) (now (out .exit)) r (bytes16 (now (picks .entry))) ⌝ }
 {
     let mut to = 0;
@@ -67,6 +84,15 @@ pub fn put_picks(picks: &[u16], out: &mut [u8]) -> usize
         i += 1;
     }
     to
+}
+
+// Puts the bytes of a picks table at the front of `out`, and answers how many there are. Nothing is cut of a table of as many states as a
+// file can have.
+pub fn put_picks(picks: &[u16], out: &mut [u8; PICKS_ROOM]) -> usize
+    ensures { λ r. ⌜ Holds (now (out .entry)) (now (out .exit)) r (bytes16 (now (picks .entry))) ⌝ }
+    ensures whole { λ r. ⌜ (length (now (picks .entry)) ≤ maxStates → take r (now (out .exit)) ≡ bytes16 (now (picks .entry))) ⌝ }
+{
+    put_each_pick(picks, out)
 }
 
 // Reads the entries of a values file into the front of `values`, as far as they fit, and answers how many there are.

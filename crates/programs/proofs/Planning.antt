@@ -1,29 +1,32 @@
 -- What a run that is no refusal says of its file, and the tables of a plan: questions 1 to 13 said yes, so the file is laid out and the
 -- tables have room for its states.
 use mathlib.Core.Path.{_≡_, refl, sym, _∙_, ap}
-use Prim.Native.Nat.{ℕ, _≤_, _<_}
+use Prim.Native.Nat.{ℕ, _*_, _≤_, _<_}
+use native.Mathlib.Nat.{le-trans, min-le-right}
 use native.Mathlib.Omega.{arith}
 use mathlib.Core.Bool.{true≢false}
 use mathlib.Core.List.{List, _++_}
-use lib.ListN.{length, take}
-use lib.Seq.{length-take-le}
+use lib.ListN.{length, take, replicate, length-take, length-replicate}
+use lib.Seq.{length-take-le, take-all}
 use Rattle.model.specs.Answers.{answerOf, solveCarries}
-use Rattle.model.specs.Audit.{audit}
-use Rattle.model.specs.Buffers.{Holds}
+use Rattle.model.specs.Audit.{Audited, audit}
+use Rattle.model.specs.Buffers.{Holds, ReadOf, lineMost, planRoom}
 use Rattle.model.specs.Carried.{Said}
-use Rattle.model.specs.Limits.{maxStates, planRounds}
-use Rattle.model.specs.Lines.{answerLine, runStates, runText, remaindersOf, planText}
-use Rattle.model.specs.Promises.{planSolution, Plans}
-use Rattle.model.specs.Questions.{passes, fileQuestions, layoutQuestions}
+use Rattle.model.specs.Limits.{maxStates, maxRows, listEnd, planRounds}
+use Rattle.model.specs.Lines.{answerLine, runStates, runText, remaindersOf, planText, auditLine}
+use Rattle.model.specs.Promises.{planSolution, Plans, Audits}
+use Rattle.model.specs.Questions.{Verdict, passes, fails, fileQuestions, layoutQuestions}
 use Rattle.model.specs.Sections.{problemOf}
 use Rattle.model.specs.Solution.{Answer, solved, spent, refused, Tables, tables, solution}
+use Rattle.model.specs.TableFiles.{entries16, entries32}
 use Rattle.model.specs.Value.{byState}
 use Rattle.model.specs.declared.SolveAnswer.{SolveAnswer}
 use Rattle.model.specs.declared.SolveAnswer.the-variants.{Solved, Spent, Refused}
 use Rattle.guarantee.specs.Listings.{lines-pick}
-use Rattle.guarantee.specs.Prefixes.{audit-tables-front}
+use Rattle.guarantee.specs.Prefixes.{longestFile, questions-front, solution-front, plan-front, states-front}
+use Rattle.guarantee.specs.Prefixes.{audit-tables-front, audit-buffers}
 use Rattle.guarantee.specs.Searches.{then-first}
-use Rattle.guarantee.specs.Solutions.{Told, turned-down, ran, told, lent-long}
+use Rattle.guarantee.specs.Solutions.{Told, turned-down, ran, told, lent-long, lent-passes, refused-by}
 use Rattle.guarantee.specs.WellFormed.{well-formed}
 use Rattle.printing.specs.Texts.{Brief}
 use Rattle.printing.proofs.Putting.{same, uncut}
@@ -98,6 +101,36 @@ run-said (Solved rounds evaluations least) n h e = absurd (true≢false (cc))
 run-said (Spent rounds evaluations) n h e = absurd (true≢false (cc))
 run-said (Refused q i) n h e = omega arith
 
+-- the tables of `plan`
+abbrev planTables : List ℕ → List ℕ → Tables
+planTables values picks = tables values picks (replicate maxRows 0) (replicate maxStates listEnd)
+
+-- tables of as many entries as a file can have states, and the tables of the program's own, are refused no file
+refused-by-file
+    : (f values picks : List ℕ) → length values ≡ maxStates → length picks ≡ maxStates → (q i : ℕ)
+    → planSolution f values picks .answer ≡ refused q i → fileQuestions f ≡ fails q i
+refused-by-file f values picks v p q i h = go (fileQuestions f) refl
+  where
+    t : Tables
+    t = planTables values picks
+
+    go : (said : Verdict) → fileQuestions f ≡ said → fileQuestions f ≡ fails q i
+    go passes e =
+        let formed = well-formed f e in
+        let lent =
+        lent-passes (problemOf f) planRounds t
+        (record {
+          values-long = omega (arith, formed .states-high);
+          picks-long = omega (arith, formed .states-high);
+          remembered-long = omega (arith, formed .rows-high, length-replicate {A = ℕ} maxRows 0);
+          list-long = omega (arith, formed .states-high, length-replicate {A = ℕ} maxStates listEnd);
+          budget-high = omega arith;
+        }) in
+        let failed = refused-by f planRounds t q i h .failed in
+        let never : passes ≡ fails q i = rw (e, lent) at failed in
+        absurd (true≢false (cc))
+    go (fails r j) e = let failed = refused-by f planRounds t q i h .failed in e ∙ rw e at failed
+
 -- what was put is the text of the plan
 module _ (f values picks : List ℕ) {values′ picks′ remembered′ walk′ : List ℕ} {a : Answer} {k : ℕ}
     (answer-is : a ≡ planSolution f values picks .answer)
@@ -125,26 +158,68 @@ module _ (f values picks : List ℕ) {values′ picks′ remembered′ walk′ :
       rw (length-take-le k walk′ within, same, answer-is, v, p, w) (ap (λ l. answerLine (s .answer) ++ l) lines)
 
   pub plans
-      : {out out′ : List ℕ} {size : ℕ} → length values′ ≡ length values → length picks′ ≡ length picks
-      → Holds out out′ size put-text → Brief put-text (length (take k walk′)) → Plans f values picks out values′ picks′ out′ size k
-  plans {out} {out′} {size} lv lp text short =
+      : {out out′ : List ℕ} {size : ℕ} → length values ≡ maxStates → length picks ≡ maxStates → planRoom ≤ length out
+      → length values′ ≡ length values → length picks′ ≡ length picks → Holds out out′ size put-text
+      → Brief put-text (length (take k walk′)) → Plans f values picks out values′ picks′ out′ size k
+  plans {out} {out′} {size} v p wide lv lp text short =
       let room = run-room f planRounds answer-is e in
       let size-is = length-take-le k walk′ within in
       let fits = rw text-is at (short (omega (arith, size-is, room .few))) in
       let put = same text-is text in
       record {
         text = put;
-        whole = λ l. uncut put (omega (arith, fits, size-is, room .few, put .long));
+        whole = uncut put (omega (arith, fits, size-is, room .few, put .long));
         values-are = ap (λ t. t .values) left-is;
         picks-are = ap (λ t. t .picks) left-is;
+        refused-by = refused-by-file f values picks v p;
         states-are = rw (← answer-is) e;
         values-hold = omega (arith, room .values-room, lv);
         picks-hold = omega (arith, room .picks-room, lp);
       }
 
--- what was read of two tables has the audit of the whole tables
+-- what was read may be all that there was
+pub read-all : (buffer : List ℕ) (n : ℕ) → ReadOf (take n buffer) buffer n
+read-all buffer n = take-all (length buffer) (take n buffer) (rw (length-take n buffer) (min-le-right n (length buffer)))
+
+-- the front of a buffer of N bytes that were read of an input is the front of the input
+pub read-front
+    : (f buffer : List ℕ) {bytes : List ℕ} (n : ℕ) {N : ℕ} → length buffer ≡ N → ReadOf f buffer n → bytes ≡ take n buffer → bytes ≡ take N f
+read-front f buffer n long read is = rw (← long) (is ∙ sym read)
+
+-- what was read of an input has the plan of the whole input
+pub plans-read
+    : (f : List ℕ) {bytes values picks out values′ picks′ out′ : List ℕ} {N size states : ℕ} → longestFile < N → bytes ≡ take N f
+    → Plans bytes values picks out values′ picks′ out′ size states → Plans f values picks out values′ picks′ out′ size states
+plans-read f {bytes} {values} {picks} {N = N} long same h =
+    let t = planTables values picks in
+    let k = rw same at h in
+    let text = plan-front N f long planRounds t in
+    let left = ap (λ x. x .tables) (solution-front N f long planRounds t) in
+    record {
+      text = rw text at (k .text);
+      whole = k .whole ∙ text;
+      values-are = k .values-are ∙ ap (λ x. x .values) left;
+      picks-are = k .picks-are ∙ ap (λ x. x .picks) left;
+      refused-by = λ q i e.
+          sym (questions-front N f long) ∙ k .refused-by q i (ap (λ x. x .answer) (solution-front N f long planRounds t) ∙ e);
+      states-are = k .states-are ∙ states-front N f long planRounds t;
+      values-hold = k .values-hold;
+      picks-hold = k .picks-hold;
+    }
+
+-- what was read of three inputs has the audit of the whole inputs: the file, and the entries of each table as far as there are states
 pub audit-read
-    : (f : List ℕ) {values picks v₀ p₀ v p : List ℕ} {n m : ℕ} → length v ≡ maxStates → length p ≡ maxStates → Holds v₀ v n values
-    → Holds p₀ p m picks → audit f (take n v) (take m p) ≡ audit f values picks
-audit-read f {values} {picks} lv lp h k =
-    rw (h .front, k .front, lv, lp) (audit-tables-front maxStates f values picks (omega arith))
+    : (f v p : List ℕ) {bytes v₀ p₀ v₁ p₁ v₂ p₂ : List ℕ} {N n m : ℕ} → longestFile < N → bytes ≡ take N f → v₀ ≡ take (4 * maxStates) v
+    → p₀ ≡ take (2 * maxStates) p → length v₂ ≡ maxStates → length p₂ ≡ maxStates → Holds v₁ v₂ n (entries32 v₀)
+    → Holds p₁ p₂ m (entries16 p₀) → audit bytes (take n v₂) (take m p₂) ≡ audit f (entries32 v) (entries16 p)
+audit-read f v p {N = N} long file values picks lv lp h k =
+    rw (h .front, k .front, lv, lp, file, values, picks)
+    (audit-tables-front maxStates (take N f) (entries32 (take (4 * maxStates) v)) (entries16 (take (2 * maxStates) p)) (omega arith)
+    ∙ audit-buffers N maxStates f v p long (omega arith))
+
+-- the line of an audit was put, and there is room for every line
+pub audits
+    : {f v p out out′ : List ℕ} {size : ℕ} {a : Audited} → a ≡ audit f (entries32 v) (entries16 p)
+    → Holds out out′ size (auditLine a) → length (auditLine a) ≤ lineMost → lineMost ≤ length out′ → Audits f v p out out′ size
+audits e h short wide =
+    record { line = same (ap auditLine e) h; whole = uncut h (le-trans short wide) ∙ ap auditLine e }

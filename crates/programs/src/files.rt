@@ -85,3 +85,22 @@ pub fn read_named(program: &[u8], i: usize, buf: &mut [u8]) -> Got
     libc::close(fd);
     got
 }
+
+// Whether argument `i` begins with `-`. A longer argument than the buffer leaves its first byte there.
+fn is_dashed(i: usize) -> bool {
+    let mut front = [0u8; 1];
+    os::arg(i, &mut front);
+    front[0] == b'-'
+}
+
+// Whether all arguments, `count` with the program's own name, may be names: no name begins with `-`, since it may be meant otherwise.
+pub fn are_names(count: usize) -> bool {
+    let mut i = 1;
+    while i < count {
+        if is_dashed(i) {
+            return false;
+        }
+        i += 1;
+    }
+    true
+}

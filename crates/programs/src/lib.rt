@@ -1,39 +1,56 @@
 // What the programs do between reading their files and writing: plan a file, and audit a file with two table files. What they print is
-// put at the front of a lent buffer, as far as it fits, and the rest of the buffer stays.
+// put at the front of a lent buffer, and the rest of the buffer stays. Buffers are lent as arrays, whose types have the room.
+pub mod checked;
 pub mod files;
 mod remainders;
 
 use crate::remainders::remainders_of;
+use model::LINE_MOST;
 use model::LIST_END;
 use model::MAX_ROWS;
 use model::MAX_STATES;
+use model::PLAN_ROOM;
 use model::PLAN_ROUNDS;
 use model::SolveAnswer;
 use printing::lines::audit_text;
 use printing::lines::plan_text;
+use printing::table_files::PICKS_ROOM;
+use printing::table_files::VALUES_ROOM;
 use printing::table_files::picks_of;
 use printing::table_files::values_of;
 use reading::index::INDEX;
 use reading::layout::layout_of;
 use solving::solve::solve_file;
 ghost use mathlib.Core.Path.{_≡_};
-ghost use Prim.Native.Nat.{_≤_};
-ghost use lib.ListN.{length, take};
+ghost use mathlib.Core.List.{List};
+ghost use Prim.Native.Nat.{ℕ};
+ghost use lib.ListN.{take};
 ghost use Rattle.model.specs.Answers.{answerOf};
-ghost use Rattle.model.specs.Audit.{audit};
-ghost use Rattle.model.specs.Buffers.{Holds, lineMost};
-ghost use Rattle.model.specs.Lines.{runStates, auditLine};
-ghost use Rattle.model.specs.Promises.{Plans};
+ghost use Rattle.model.specs.Buffers.{ReadOf};
+ghost use Rattle.model.specs.Lines.{runStates};
+ghost use Rattle.model.specs.Promises.{Plans, Audits};
 ghost use Rattle.model.specs.Sections.{problemOf};
-ghost use Rattle.model.specs.TableFiles.{entries16, entries32};
 ghost use Rattle.model.specs.Solution.{tables};
 ghost use Rattle.programs.specs.AnswerFor.{AnswerFor};
 ghost use Rattle.programs.specs.Remainders.{RunDone};
+
+// Room for the bytes of every problem file that passes, and more: a longer input is refused as its front is.
+pub const FILE_ROOM: usize = 65536;
 
 // How many bytes the text of a plan has, and how many states the file; 0 states where it is refused.
 pub struct Planned {
     pub length: usize,
     pub states: usize,
+}
+
+// The first n bytes, or all where there are no more.
+fn front(bytes: &[u8], n: usize) -> &[u8]
+    ensures { λ r. ⌜ now r ≡ take n (now (bytes .entry)) ⌝ }
+{
+    if n < bytes.len() {
+        return &bytes[..n];
+    }
+    bytes
 }
 
 // The number of states of a file that has an answer; 0 where it is refused.
@@ -103,16 +120,23 @@ fn run(
     }
 }
 
-// Plans a file: its text stands at the front of `out`, its tables in `values` and `picks`.
-pub fn plan(file: &[u8], values: &mut [u32], picks: &mut [u16], out: &mut [u8]) -> Planned
+// Plans an input of which `read` bytes are in `file`: its text stands at the front of `out`, its tables in `values` and `picks`.
+pub fn plan(
+    file: &[u8; FILE_ROOM],
+    read: usize,
+    values: &mut [u32; MAX_STATES],
+    picks: &mut [u16; MAX_STATES],
+    out: &mut [u8; PLAN_ROOM],
+) -> Planned
     ensures { λ r.
-        ⌜ Plans
-        (now (file .entry)) (now (values .entry)) (now (picks .entry)) (now (out .entry)) (now (values .exit)) (now (picks .exit))
-        (now (out .exit)) (r .length) (r .states) ⌝ }
+        ⌜ ((f : List ℕ) → ReadOf f (now (file .entry)) read →
+        Plans
+        f (now (values .entry)) (now (picks .entry)) (now (out .entry)) (now (values .exit)) (now (picks .exit))
+        (now (out .exit)) (r .length) (r .states)) ⌝ }
 {
     let mut remembered = [0u32; MAX_ROWS];
     let mut walk = [LIST_END; MAX_STATES];
-    let ran = run(file, values, picks, &mut remembered, &mut walk);
+    let ran = run(front(file, read), values, picks, &mut remembered, &mut walk);
     let states = ran.states;
     let length = plan_text(
         ran.answer,
@@ -125,21 +149,27 @@ pub fn plan(file: &[u8], values: &mut [u32], picks: &mut [u16], out: &mut [u8]) 
     Planned { length, states }
 }
 
-// The line of the audit of a file with the tables of two table files.
-pub fn audit_line(file: &[u8], values: &[u8], picks: &[u8], out: &mut [u8]) -> usize
+// The line of the audit of an input with the tables of two others, of which i, j and k bytes are in `file`, `values` and `picks`.
+pub fn audit_line(
+    file: &[u8; FILE_ROOM],
+    i: usize,
+    values: &[u8; VALUES_ROOM],
+    j: usize,
+    picks: &[u8; PICKS_ROOM],
+    k: usize,
+    out: &mut [u8; LINE_MOST],
+) -> usize
     ensures { λ r.
-        ⌜ Holds
-        (now (out .entry)) (now (out .exit)) r
-        (auditLine (audit (now (file .entry)) (entries32 (now (values .entry))) (entries16 (now (picks .entry))))) ⌝ }
-    ensures whole { λ r.
-        ⌜ (lineMost ≤ length (now (out .exit))
-        → take r (now (out .exit))
-        ≡ auditLine (audit (now (file .entry)) (entries32 (now (values .entry))) (entries16 (now (picks .entry))))) ⌝ }
+        ⌜ ((f v p : List ℕ) → ReadOf f (now (file .entry)) i → ReadOf v (now (values .entry)) j
+        → ReadOf p (now (picks .entry)) k → Audits f v p (now (out .entry)) (now (out .exit)) r) ⌝ }
 {
+    let problem = front(file, i);
+    let value_bytes = front(values, j);
+    let pick_bytes = front(picks, k);
     let mut v = [0u32; MAX_STATES];
-    let n = values_of(values, &mut v);
+    let n = values_of(value_bytes, &mut v);
     let mut p = [0u16; MAX_STATES];
-    let m = picks_of(picks, &mut p);
-    let answer = auditing::audit(file, &v[..n], &p[..m]);
+    let m = picks_of(pick_bytes, &mut p);
+    let answer = auditing::audit(problem, &v[..n], &p[..m]);
     audit_text(answer, out)
 }

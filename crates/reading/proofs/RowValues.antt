@@ -1,6 +1,6 @@
 -- The value of a row from the part of the file that the index gives to it, and its bounds.
 -- The problem is opened where the two readings of the outcomes meet.
-use mathlib.Core.Path.{_≡_, _∙_}
+use mathlib.Core.Path.{_≡_, refl, _∙_, ap}
 use Prim.Native.Nat.{ℕ, _+_, _-_, _*_, _/_, _%_, _≤_, _<_}
 use native.Mathlib.Nat.{div-le-self, div-mul-le-self, div-add-mod', mul-le-mul}
 use native.Mathlib.Omega.{arith}
@@ -14,10 +14,11 @@ use Rattle.model.specs.Limits.{maxRows, maxSeconds, fileStick, millimetreSecond
 use Rattle.model.specs.Sections.{problemOf, lengthSeconds, rateSeconds, secondsOn, rowAt, kindOf, costNumberOf, outcomeAt}
 use Rattle.model.specs.Sections.{outcomeCountOf}
 use Rattle.model.specs.Value.{weightedSum, rowValue, rowRemainder}
+use Rattle.guarantee.specs.Parts.{outcomes-count}
 use Rattle.guarantee.specs.TableFiles.{u16-front}
 use Rattle.reading.specs.Ready.{Ready, RowReady, SumThere}
 use Rattle.reading.specs.RowParts.{part-size, part-reads, part-begins, part-ends, partFrom, partTo, rows-end}
-use Rattle.reading.specs.Tests.{rowsBase, partOf, outcomesIn}
+use Rattle.reading.specs.Tests.{rowsBase, partOf, partBytes, outcomesIn}
 use Rattle.reading.specs.Bounds.{byteBound, shortBound}
 
 -- a weight of two bytes times a value of four
@@ -67,6 +68,17 @@ module _ {f index : List ℕ} {entries r : ℕ} (h : RowReady f index entries r)
   pub part-holds : outcomesIn (partOf f index r) ≡ problemOf f .outcomes r
   unfolding problemOf
   part-holds = part-reads f (partFrom index r) (partTo index r) (outcomeCountOf f r) part-to part-inside ∙ rw part-from
+
+  pub part-is : partOf f index r ≡ partBytes f r
+  part-is =
+      let size : partTo index r - partFrom index r ≡ 4 * outcomeCountOf f r = omega (arith, part-to) in
+      rw (size, part-from) refl
+
+  pub part-long : length (partOf f index r) ≡ 4 * length (problemOf f .outcomes r)
+  part-long =
+      let size = part-size f (partFrom index r) (partTo index r) (outcomeCountOf f r) part-to part-inside in
+      let count = ap length part-holds in
+      omega (arith, outcomes-count (partOf f index r) 0 (length (partOf f index r) / 4))
 
   part-successor : (i : ℕ) → i < outcomeCountOf f r → u16At (partOf f index r) (4 * i) < entries
   part-successor i l =

@@ -10,7 +10,7 @@ use Rattle.model.specs.Limits.{maxStates, maxRows, ticksPerSecond}
 use Rattle.model.specs.Problem.{Outcome}
 use Rattle.model.specs.Questions.{rowObeys}
 use Rattle.model.specs.Search.{sumTo}
-use Rattle.model.specs.Sections.{outcomesFrom, secondsOn}
+use Rattle.model.specs.Sections.{outcomesFrom, outcomeAt, outcomeCountOf, secondsOn}
 
 -- of the states whose bytes begin at i: the number of rows
 abbrev pub rowCountAt : List ℕ → ℕ → ℕ → ℕ
@@ -47,6 +47,10 @@ allEntries starts costs index n = set (rowEntries starts costs index n) (rowsBas
 abbrev pub partOf : List ℕ → List ℕ → ℕ → List ℕ
 partOf f index r =
     take (getD index (rowsBase + 2 * r + 2) 0 - getD index (rowsBase + 2 * r) 0) (drop (getD index (rowsBase + 2 * r) 0) f)
+
+-- the bytes of the file that row r has its outcomes in, up to those of the next row
+abbrev pub partBytes : List ℕ → ℕ → List ℕ
+partBytes f r = take (4 * outcomeCountOf f r) (drop (outcomeAt f r) f)
 
 -- the outcomes in a part, 4 bytes each
 abbrev pub outcomesIn : List ℕ → List Outcome

@@ -4,19 +4,22 @@ use crate::index::ROWS;
 use crate::numbers::u16_at;
 use model::TICKS_PER_SECOND;
 ghost use mathlib.Core.Path.{_≡_};
-ghost use Prim.Native.Nat.{ℕ, _<_};
+ghost use Prim.Native.Nat.{ℕ, _*_, _<_};
 ghost use lib.ListN.{getD, length};
 ghost use Rattle.model.specs.Limits.{maxRows};
 ghost use Rattle.model.specs.Sections.{problemOf};
 ghost use Rattle.model.specs.Walk.{successors};
 ghost use Rattle.reading.specs.Ready.{Ready};
 ghost use Rattle.reading.specs.RowParts.{secondsAt};
-ghost use Rattle.reading.specs.Tests.{outcomesIn};
+ghost use Rattle.reading.specs.Tests.{partBytes, outcomesIn};
 
 // The outcomes of row r, 4 bytes each, as a part that starts inside the file.
 pub fn outcomes_of<'a>(file: &'a [u8], index: &[u32; INDEX], r: usize) -> &'a [u8]
     requires { ⌜ Ready (now file) (now index) × (r < problemOf (now file) .rows) ⌝ }
     ensures { λ part. ⌜ outcomesIn (now part) ≡ problemOf (now (file .entry)) .outcomes r ⌝ }
+    ensures bytes { λ part.
+        ⌜ (now part ≡ partBytes (now (file .entry)) r)
+        × (length (now part) ≡ 4 * length (problemOf (now (file .entry)) .outcomes r)) ⌝ }
 {
     let from = index[ROWS + 2 * r] as usize;
     let to = index[ROWS + 2 * r + 2] as usize;

@@ -39,20 +39,25 @@ pub record Given (p : Problem) (n e cost : ℕ) : Type 0 where
   pub give : cost ≡ giveUpCost p
 
 -- a round done: the tables, the first `listed` entries of the walk list and the counts are those of the model's round;
--- where nothing moved C is that of the picks
+-- where nothing moved C is that of the picks, else 0; no value was too large
 pub record Rounded (p : Problem) (e : ℕ) (t : Tables) (count : ℕ) (t′ : Tables) (r : RoundDone) : Type 0 where
   pub same : (l : List ℕ) (b : Bool)
       → machineWith t′ (take (r .listed) (t′ .walk-list)) (r .count) (r .moved) ≡ round p e (machineWith t l count b)
   pub least : r .moved ≡ false → r .least ≡ leastCost p (byState (t′ .picks))
+  pub no-least : r .moved ≡ true → r .least ≡ 0
   pub few : r .listed ≤ p .states
   pub beyond : drop (p .states) (t′ .walk-list) ≡ drop (p .states) (t .walk-list)
   pub fine : r .over ≡ false
+  pub no-row : r .row ≡ 0
 
--- a run done: how it ended is how the model's run ends; where it is solved C is that of the picks as they are left
+-- a run done: how it ended is how the model's run ends; where it is solved C is that of the picks as they are left, else 0; no value
+-- was too large
 pub record Ran (p : Problem) (e budget : ℕ) (t t′ : Tables) (r : Ended) : Type 0 where
   pub ends : runFrom p e budget true 0 (machineWith t [] 0 true)
       ≡ endedAs (r .solved) (r .rounds) (machineWith t′ (take (r .listed) (t′ .walk-list)) (r .evaluations) (not (r .solved)))
   pub least : r .solved ≡ true → r .least ≡ leastCost p (byState (t′ .picks))
+  pub no-least : r .solved ≡ false → r .least ≡ 0
   pub few : r .listed ≤ p .states
   pub beyond : drop (p .states) (t′ .walk-list) ≡ drop (p .states) (t .walk-list)
   pub fine : r .over ≡ false
+  pub no-row : r .row ≡ 0

@@ -87,7 +87,7 @@ fn round(
 }
 
 // How a run ended: rounds done, evaluations, the length of the last walk's list, and whether it was solved; C, or 0 where it was
-// not. Where the value of a row did not fit `over` is set, and that row is `row`.
+// not. Where the value of a row did not fit `over` is set, and that row is `row`, which is 0 otherwise.
 pub struct Ended {
     pub rounds: u64,
     pub evaluations: u64,

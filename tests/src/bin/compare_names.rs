@@ -1,26 +1,39 @@
-//! Tries the programs on names that cannot be read or written, and on too few and too many of them:
-//! there is a message on standard error, and no table that is not whole.
+//! Tries the programs on names that cannot be read or written, on names of files that are no tables, on
+//! names that begin with `-`, and on too few and too many of them: there is a message on standard error,
+//! nothing is lost, and there is no table that is not whole.
 //!
 //! `compare_names [plan] [audit] [sheet]`
 
 use comparisons::examples::file_p;
 use comparisons::extremes::at_limits;
 use comparisons::harness::Tally;
+use comparisons::limits::MAX_STATES;
 use comparisons::listing::{plan_lines, planned};
-use comparisons::programs::{run, said, start, Folder, Program, Said};
+use comparisons::programs::{run, said, start, taken, Folder, Program, Said};
 use comparisons::random::Random;
 use comparisons::table_files::{picks_bytes, values_bytes};
 use std::ffi::{OsStr, OsString};
 use std::fs::File;
 use std::os::unix::ffi::OsStringExt;
+use std::os::unix::fs::{symlink, FileTypeExt};
 use std::process::{Command, ExitCode};
 
-/// What stands in the folder: P and its tables, a folder, and folders where a part would be written.
-const STANDING: [&str; 6] = ["empty", "file", "folder", "old-picks", "old-values", "taken.part"];
+/// How often each must be met.
+const LEAST: [(&str, u64); 5] = [
+    ("names that cannot be written", 28),
+    ("names of other files", 24),
+    ("part files", 12),
+    ("names with a dash", 20),
+    ("names that cannot be read", 21),
+];
 /// The system's longest path, in bytes.
 const LONGEST_PATH: usize = 4_096;
-/// The bytes of the old tables.
-const OLD: &[u8] = b"as they were";
+/// The bytes of P's old tables, which has three states.
+const OLD_VALUES: &[u8] = b"values as of";
+const OLD_PICKS: &[u8] = b"old...";
+/// Lengths of files that are no tables of P: empty, about those of its tables, and longer than any table.
+const NO_VALUES: [usize; 6] = [0, 6, 11, 13, 4_096, 4_097];
+const NO_PICKS: [usize; 6] = [0, 5, 7, 12, 2_048, 100_000];
 /// Runs a program that may write no file longer than so many blocks, as on a disk that is full.
 const FULL_DISK: &str = "trap '' XFSZ; ulimit -f \"$1\"; shift; exec \"$@\"";
 
@@ -30,33 +43,41 @@ struct Room {
     audit: Program,
     sheet: Program,
     folder: Folder,
+    /// What stood in the folder before each run.
+    standing: Vec<(String, Vec<u8>)>,
     tally: Tally,
 }
 
 impl Room {
-    /// The folder as it is before each run.
+    /// The folder as it is before each run: P and its old tables, a folder, a pipe, links, and a folder
+    /// where a part would be written.
     fn new() -> Room {
         let folder = Folder::new("compare-names");
         folder.put("file", Some(&file_p().bytes()));
         folder.put("empty", Some(&[]));
-        folder.put("old-values", Some(OLD));
-        folder.put("old-picks", Some(OLD));
+        folder.put("old-values", Some(OLD_VALUES));
+        folder.put("old-picks", Some(OLD_PICKS));
+        folder.put("long-values", Some(&[1; 4 * MAX_STATES]));
         for name in ["folder", "taken.part"] {
             std::fs::create_dir(folder.path(name)).expect("a folder can be made");
         }
+        for (name, to) in [("to-the-file", "file"), ("to-the-folder", "folder")] {
+            symlink(to, folder.path(name)).expect("a link can be made");
+        }
+        let made = Command::new("mkfifo").arg(folder.path("pipe")).status();
+        assert!(made.expect("mkfifo").success());
         let (plan, audit) = (Program::named(1, "plan"), Program::named(2, "audit"));
         let sheet = Program::named(3, "sheet");
-        Room { plan, audit, sheet, folder, tally: Tally::default() }
+        for program in [&plan, &audit, &sheet] {
+            program.run(&folder, &["-"], &[]);
+        }
+        let standing = contents(&folder);
+        Room { plan, audit, sheet, folder, standing, tally: Tally::asking(&LEAST) }
     }
 
     /// Holds that the folder is as it was.
     fn hold_folder(&mut self) {
-        self.tally.hold("the folder", &self.folder.names(), &STANDING.map(String::from).to_vec());
-        for name in ["old-values", "old-picks"] {
-            self.tally.hold(name, &self.folder.get(name), &Some(OLD.to_vec()));
-        }
-        let inside = std::fs::read_dir(self.folder.path("folder")).expect("a folder").count();
-        self.tally.hold("what the folder holds", &inside, &0);
+        self.tally.hold("the folder", &contents(&self.folder), &self.standing);
     }
 
     /// Holds that a message says which program it comes from and about which name, on one line.
@@ -68,15 +89,15 @@ impl Room {
         self.tally.hold("the message", given, &asked);
     }
 
-    /// `plan` with names that cannot both be written: the lines stand all the same, nothing is
-    /// written, and the message is about the one at fault.
+    /// `plan` with names that cannot both take tables: there is no plan, nothing is written, and the
+    /// message is about the one at fault.
     fn compare_unwritable(&mut self, values: &OsStr, picks: &OsStr, at_fault: &OsStr) {
         self.tally.case =
             format!("plan {:.40?} {:.40?}", values.to_string_lossy(), picks.to_string_lossy());
         self.tally.count("names that cannot be written");
         let file = file_p().bytes();
         let said = self.plan.run(&self.folder, &[values, picks], &file);
-        self.tally.hold("the lines", &said.output, &plan_lines(&file));
+        self.tally.hold("the lines", said.output.as_str(), "");
         self.hold_message(&said.messages, &front("plan", &at_fault.to_string_lossy()));
         self.hold_folder();
     }
@@ -84,13 +105,148 @@ impl Room {
     /// All names that cannot be written, each for values and for picks.
     fn compare_all_unwritable(&mut self) {
         let (long, longer) = long_names();
-        for name in ["nowhere/table", "folder", "file/table", "taken", "", &long, &longer] {
-            for other in ["new", "old-values"] {
-                let (name, other) = (OsStr::new(name), OsStr::new(other));
-                self.compare_unwritable(name, other, name);
-                self.compare_unwritable(other, name, name);
+        for name in [
+            "nowhere/table",
+            "folder",
+            "to-the-folder",
+            "file/table",
+            "taken",
+            "",
+            "pipe",
+            &long,
+            &longer,
+        ] {
+            let at_fault = if name == "taken" { "taken.part" } else { name };
+            for (values, picks) in [("new", "new"), ("old-values", "old-picks")] {
+                let [name, at_fault, values, picks] =
+                    [name, at_fault, values, picks].map(OsStr::new);
+                self.compare_unwritable(name, picks, at_fault);
+                self.compare_unwritable(values, name, at_fault);
             }
         }
+    }
+
+    /// `plan` on P with two names, whose tables are there afterwards and are taken away again.
+    fn compare_written(&mut self, values: &OsStr, picks: &OsStr) {
+        let file = file_p().bytes();
+        let tables = planned(&file).tables.expect("P passes");
+        let said = self.plan.run(&self.folder, &[values, picks], &file);
+        self.tally.hold("the lines", &said, &Said::only(plan_lines(&file)));
+        self.tally.hold("values", &self.folder.get(values), &Some(values_bytes(&tables.values)));
+        self.tally.hold("picks", &self.folder.get(picks), &Some(picks_bytes(&tables.picks)));
+    }
+
+    /// Puts what stood under names, and takes others away.
+    fn restore(&mut self, names: &[&OsStr]) {
+        for name in names {
+            drop(std::fs::remove_file(self.folder.path(name)));
+        }
+        for (name, bytes) in [("old-values", OLD_VALUES), ("old-picks", OLD_PICKS)] {
+            self.folder.put(name, Some(bytes));
+        }
+        self.hold_folder();
+    }
+
+    /// `plan` on P with one name that holds a file of another length: it is as it was, the other too.
+    fn compare_taken(&mut self, values: &str, picks: &str, message: &str, input: File) {
+        self.tally.case = format!("plan {values} {picks}, one of them taken");
+        self.tally.count("names of other files");
+        let before = contents(&self.folder);
+        let mut command = Command::new(self.plan.path());
+        command.args([values, picks]).current_dir(self.folder.path("")).stdin(input);
+        let ended = said(start(&mut command));
+        let asked = Said { output: String::new(), messages: message.into() };
+        self.tally.hold("what is said", &ended, &asked);
+        self.tally.hold("the folder", &contents(&self.folder), &before);
+    }
+
+    /// The problem itself, and files of all other lengths, for values and for picks.
+    fn compare_all_taken(&mut self) {
+        let input = |room: &Room| File::open(room.folder.path("file")).expect("P");
+        for name in ["file", "./file", "to-the-file", "/dev/null", "old-picks", "long-values"] {
+            for picks in ["new", "old-picks", "file"].into_iter().filter(|&picks| picks != name) {
+                self.compare_taken(name, picks, &taken(name, OLD_VALUES.len()), input(self));
+            }
+        }
+        for name in ["file", "folder/../file", "to-the-file", "/dev/null", "old-values", "empty"] {
+            for values in ["new", "old-values"].into_iter().filter(|&values| values != name) {
+                self.compare_taken(values, name, &taken(name, OLD_PICKS.len()), input(self));
+            }
+        }
+        for (no_values, no_picks) in NO_VALUES.into_iter().zip(NO_PICKS) {
+            self.folder.put("other", Some(&vec![b'o'; no_values]));
+            self.compare_taken("other", "new", &taken("other", OLD_VALUES.len()), input(self));
+            self.folder.put("other", Some(&vec![b'o'; no_picks]));
+            self.compare_taken("new", "other", &taken("other", OLD_PICKS.len()), input(self));
+        }
+        self.restore(&[OsStr::new("other")]);
+    }
+
+    /// Tables of the same lengths are replaced, and a link to one is, but not what it leads to.
+    fn compare_replaced(&mut self) {
+        self.tally.case = "old tables".into();
+        let (values, picks) = (OsStr::new("old-values"), OsStr::new("old-picks"));
+        self.compare_written(values, picks);
+        self.compare_written(values, picks);
+        self.restore(&[]);
+        self.tally.case = "a link to an old table".into();
+        symlink("old-values", self.folder.path("link")).expect("a link can be made");
+        self.compare_written(OsStr::new("link"), OsStr::new("new"));
+        self.restore(&["link", "new"].map(OsStr::new));
+    }
+
+    /// What stands in the place of a part file: one of an earlier run, which is whole or empty, is
+    /// removed, and anything else stays.
+    fn compare_parts(&mut self) {
+        let input = |room: &Room| File::open(room.folder.path("file")).expect("P");
+        let (values, picks) = (OsStr::new("new"), OsStr::new("newer"));
+        for (part, whole, others) in [("new.part", 12, NO_VALUES), ("newer.part", 6, NO_PICKS)] {
+            for length in [0, whole] {
+                self.tally.case = format!("{part} of an earlier run, {length} bytes");
+                self.tally.count("part files");
+                self.folder.put(part, Some(&vec![b'o'; length]));
+                self.compare_written(values, picks);
+                self.restore(&[values, picks]);
+            }
+            for length in others.into_iter().filter(|&length| length != 0) {
+                self.tally.count("part files");
+                self.folder.put(part, Some(&vec![b'o'; length]));
+                self.compare_taken("new", "newer", &taken(part, whole), input(self));
+            }
+            self.restore(&[OsStr::new(part)]);
+        }
+    }
+
+    /// A file that is refused is refused whatever the names, and nothing is written.
+    fn compare_refused(&mut self) {
+        for names in [["file", "empty"], ["new", "folder"], ["old-values", "old-picks"], ["", ""]] {
+            self.tally.case = format!("a refused file with {names:?}");
+            let said = self.plan.run(&self.folder, &names, &file_p().bytes()[1..]);
+            self.tally.hold("the refusal", &said, &Said::only(plan_lines(&file_p().bytes()[1..])));
+            self.hold_folder();
+        }
+    }
+
+    /// Names that begin with `-`, each at each place.
+    fn compare_dashes(&mut self) {
+        let long = format!("-{}", "n".repeat(10_000));
+        for dashed in ["-", "-v", "--help", "-/../new", &long] {
+            for place in 0..3 {
+                self.tally.case = format!("{dashed:.40} at {place}");
+                self.tally.count("names with a dash");
+                let mut names = ["file", "old-values", "old-picks"];
+                names[place] = dashed;
+                self.compare_usage(&names, 3);
+                if place > 0 {
+                    self.tally.count("names with a dash");
+                    self.compare_usage(&names[1..], 2);
+                }
+            }
+        }
+        self.tally.case = "a name that begins with `./-`".into();
+        let names = ["./-v", "./-p"].map(OsStr::new);
+        self.compare_written(names[0], names[1]);
+        self.restore(&names);
     }
 
     /// A disk that takes no table, or only the front of one.
@@ -101,20 +257,28 @@ impl Room {
             self.tally.count("full disks");
             let mut command = Command::new("sh");
             command.args(["-c", FULL_DISK, "sh", blocks]).arg(self.plan.path());
-            command.args(["old-values", "new"]).current_dir(self.folder.path(""));
+            command.args(["long-values", "new"]).current_dir(self.folder.path(""));
             let said = run(&mut command, &file);
             self.tally.hold("the lines", &said.output, &plan_lines(&file));
-            self.hold_message(&said.messages, "plan: old-values: ");
+            self.hold_message(&said.messages, "plan: long-values: ");
             self.hold_folder();
         }
     }
 
-    /// One name for both tables.
+    /// One name for both tables, in one spelling and in two, and names of which one is the other's part.
     fn compare_one_name(&mut self) {
-        self.tally.case = "one name for both tables".into();
         let file = file_p().bytes();
-        for name in ["new", "old-values"] {
-            let said = self.plan.run(&self.folder, &[name, name], &file);
+        for names in [
+            ["new", "new"],
+            ["old-values", "old-values"],
+            ["new", "./new"],
+            ["folder/../new", "new"],
+            ["new", "new.part"],
+            ["new.part", "new"],
+        ] {
+            self.tally.case = format!("one name for both tables, {names:?}");
+            let said = self.plan.run(&self.folder, &names, &file);
+            self.tally.hold("the lines", said.output.as_str(), "");
             self.hold_message(&said.messages, "plan: ");
             self.hold_folder();
         }
@@ -123,22 +287,13 @@ impl Room {
     /// Names of any bytes but a slash, and names in a folder below, are written.
     fn compare_odd_names(&mut self) {
         self.tally.case = "odd names".into();
-        let file = file_p().bytes();
-        let tables = planned(&file).tables.expect("P passes");
         let odd: OsString = OsStringExt::from_vec(vec![b' ', 0xff, b'*', b'\n']);
         let below = OsString::from("folder/picks");
-        let said = self.plan.run(&self.folder, &[&odd, &below], &file);
-        let asked = Said::only(plan_lines(&file));
-        self.tally.hold("the lines", &said, &asked);
-        self.tally.hold("values", &self.folder.get(&odd), &Some(values_bytes(&tables.values)));
-        self.tally.hold("picks", &self.folder.get(&below), &Some(picks_bytes(&tables.picks)));
+        self.compare_written(&odd, &below);
         let names = [OsStr::new("file"), &odd, &below];
         let said = self.audit.run(&self.folder, &names, &[]);
         self.tally.hold("the audit", said.output.as_str(), "accepted 100000\n");
-        for name in [&odd, &below] {
-            std::fs::remove_file(self.folder.path(name)).expect("a table was written");
-        }
-        self.hold_folder();
+        self.restore(&[&odd, &below]);
     }
 
     /// `audit` with a name that cannot be read at each place: a message, and no verdict.
@@ -192,24 +347,43 @@ impl Room {
         let names = ["file", "old-values", "old-picks", "new", "newer"];
         for count in 0..=names.len() {
             self.tally.case = format!("{count} names");
-            if count != 0 && count != 2 {
-                let said = self.plan.run(&self.folder, &names[..count], &file_p().bytes());
-                let messages = "plan: give no names, or two: VALUES PICKS\n".into();
-                self.tally.hold("plan", &said, &Said { output: String::new(), messages });
+            for wanted in [0, 2, 3] {
+                if count != wanted && (count != 0 || wanted == 3) {
+                    self.compare_usage(&names[..count], wanted);
+                }
             }
-            if count != 3 {
-                let said = self.audit.run(&self.folder, &names[..count], &[]);
-                let messages = "audit: give three names: FILE VALUES PICKS\n".into();
-                self.tally.hold("audit", &said, &Said { output: String::new(), messages });
-            }
-            if count != 0 {
-                let said = self.sheet.run(&self.folder, &names[..count], &[]);
-                let messages = "sheet: give no names\n".into();
-                self.tally.hold("sheet", &said, &Said { output: String::new(), messages });
-            }
-            self.hold_folder();
         }
     }
+
+    /// The program that wants so many names is told others: it says which, and does nothing.
+    fn compare_usage(&mut self, names: &[&str], wanted: usize) {
+        let (program, messages) = match wanted {
+            0 => (&self.sheet, "sheet: give no names\n"),
+            2 => (&self.plan, "plan: give no names, or two: VALUES PICKS\n"),
+            _ => (&self.audit, "audit: give three names: FILE VALUES PICKS\n"),
+        };
+        let said = program.run(&self.folder, names, &file_p().bytes());
+        let asked = Said { output: String::new(), messages: messages.into() };
+        self.tally.hold("the names that are wanted", &said, &asked);
+        self.hold_folder();
+    }
+}
+
+/// All that stands in the folder and in the folder below, with the bytes of its files.
+fn contents(folder: &Folder) -> Vec<(String, Vec<u8>)> {
+    let below = std::fs::read_dir(folder.path("folder")).expect("a folder");
+    let below =
+        below.map(|entry| entry.expect("an entry").file_name().to_string_lossy().into_owned());
+    let names = folder.names().into_iter().chain(below.map(|name| format!("folder/{name}")));
+    let bytes = |name: &String| {
+        let path = folder.path(name);
+        let kind = std::fs::symlink_metadata(&path).expect("an entry").file_type();
+        match kind.is_fifo() || kind.is_dir() || path.is_dir() {
+            true => vec![],
+            false => std::fs::read(&path).expect("a file"),
+        }
+    };
+    names.map(|name| (name.clone(), bytes(&name))).collect()
 }
 
 /// A name longer than a folder holds, and one longer than any path.
@@ -229,6 +403,11 @@ fn front(program: &str, name: &str) -> String {
 fn main() -> ExitCode {
     let mut room = Room::new();
     room.compare_all_unwritable();
+    room.compare_all_taken();
+    room.compare_replaced();
+    room.compare_parts();
+    room.compare_refused();
+    room.compare_dashes();
     room.compare_full_disk();
     room.compare_one_name();
     room.compare_odd_names();

@@ -14,7 +14,7 @@ use comparisons::limits::{GIVE_UP, MAX_STATES, NO_PICK};
 use comparisons::listing::{audit_line, ends_within, planned, remainders_from, Planned};
 use comparisons::made::made;
 use comparisons::problem::FILE_QUESTIONS;
-use comparisons::programs::{Folder, Program, Said};
+use comparisons::programs::{taken, Folder, Program, Said};
 use comparisons::random::Random;
 use comparisons::solver::OwnedTables;
 use comparisons::table_files::{picks_bytes, picks_of, values_bytes, values_of};
@@ -33,7 +33,8 @@ const LEAST_MET: u64 = 20;
 const LEAST_OF_FILES: u64 = 5;
 /// How many there must be of each answer, and of remainders above 0 in a plan's lines, in each total its
 /// share; `refused` are the audits that refuse.
-const LEAST: [(&str, u64); 7] = [
+const LEAST: [(&str, u64); 8] = [
+    ("names of other files, refused", 120),
     ("plans, solved", 120),
     ("plans, spent", 5),
     ("plans, refused", 25),
@@ -51,6 +52,8 @@ const NAMES: [&str; 2] = ["values", "picks"];
 
 /// The bytes of the two table files.
 type Tables = [Vec<u8>; 2];
+/// What stands under a name, if anything.
+type Old = Option<Vec<u8>>;
 
 /// What a comparison needs: the programs, a folder for their files, and the count of differences.
 struct Day {
@@ -61,10 +64,16 @@ struct Day {
 }
 
 impl Day {
-    /// Plans a file with names, which may hold something before. Gives what the paper asks for.
-    fn plan(&mut self, file: &[u8], before: &[Option<Vec<u8>>; 2]) -> Planned {
+    /// Plans a file with names, which may hold something before: where there are tables, old ones of the
+    /// same lengths. Gives what the paper asks for.
+    fn plan(&mut self, file: &[u8], mut before: impl FnMut(Option<usize>) -> Old) -> Planned {
         let asked = planned(file);
-        for (name, bytes) in NAMES.iter().zip(before) {
+        let lengths = match &asked.tables {
+            Some(tables) => [Some(4 * tables.values.len()), Some(2 * tables.picks.len())],
+            None => [None, None],
+        };
+        let before = lengths.map(&mut before);
+        for (name, bytes) in NAMES.iter().zip(&before) {
             self.folder.put(name, bytes.as_deref());
         }
         let said = self.plan.run(&self.folder, &NAMES, file);
@@ -72,13 +81,33 @@ impl Day {
         self.tally.hold("plan's lines", &said, &lines);
         let after = match &asked.tables {
             Some(tables) => [Some(values_bytes(&tables.values)), Some(picks_bytes(&tables.picks))],
-            None => before.clone(),
+            None => before,
         };
         self.tally.hold("the tables", &NAMES.map(|name| self.folder.get(name)), &after);
         let mut others = self.folder.names();
         others.retain(|name| name != "file" && !NAMES.contains(&name.as_str()));
         self.tally.hold("what else is left", &others, &vec![]);
         asked
+    }
+
+    /// Plans a file that passes over one name that holds something of another length: it stays, and
+    /// there is no plan.
+    fn plan_over_another(&mut self, random: &mut Random, file: &[u8], tables: &Tables) {
+        let mut before = tables.clone();
+        let at = random.below(2);
+        before[at] = any_bytes(random);
+        if before[at].len() == tables[at].len() {
+            return;
+        }
+        self.tally.count_on(file, "names of other files, refused");
+        for (name, bytes) in NAMES.iter().zip(&before) {
+            self.folder.put(name, Some(bytes));
+        }
+        let said = self.plan.run(&self.folder, &NAMES, file);
+        self.tally.hold("plan's lines", said.output.as_str(), "");
+        self.tally.hold("the message", said.messages.as_str(), &taken(NAMES[at], tables[at].len()));
+        let after = NAMES.map(|name| self.folder.get(name).unwrap_or_default());
+        self.tally.hold("the tables", &after, &before);
     }
 
     /// Audits tables for the file that stands in the folder.
@@ -102,13 +131,14 @@ impl Day {
     fn compare(&mut self, random: &mut Random, case: &str, file: &[u8]) {
         self.tally.case = case.into();
         self.folder.put("file", Some(file));
-        let before = NAMES.map(|_| random.once_in(2).then(|| any_bytes(random)));
-        let Planned { lines, tables: Some(tables) } = self.plan(file, &before) else {
+        let before = |length| random.once_in(2).then(|| any_of(random, length));
+        let Planned { lines, tables: Some(tables) } = self.plan(file, before) else {
             self.tally.count_on(file, "plans, refused");
             self.audit(file, &[any_bytes(random), any_bytes(random)]);
             return;
         };
         let written = NAMES.map(|name| self.folder.get(name).unwrap_or_default());
+        self.plan_over_another(random, file, &written);
         let verdict = self.audit(file, &written);
         let remainders = remainders_from(1, &lines);
         if let Some(solved) = lines.lines().next().and_then(|line| line.strip_prefix("solved ")) {
@@ -174,7 +204,7 @@ impl Day {
                 long.resize(length, 0);
                 self.folder.put("file", Some(&long));
                 self.audit(&long, &tables);
-                self.plan(&long, &[None, None]);
+                self.plan(&long, |_| None);
             }
         }
         for (case, file) in [("empty", vec![]), ("noise", noise(random, VERY_LONG))] {
@@ -221,6 +251,14 @@ fn any_bytes(random: &mut Random) -> Vec<u8> {
     let length = random.pick(&[0, 1, 7, 64, 5_000, 100_000]);
     let length = random.below(length + 1);
     noise(random, length)
+}
+
+/// Bytes of this length, or of any.
+fn any_of(random: &mut Random, length: Option<usize>) -> Vec<u8> {
+    match length {
+        Some(length) => noise(random, length),
+        None => any_bytes(random),
+    }
 }
 
 /// Tables broken once to three times.

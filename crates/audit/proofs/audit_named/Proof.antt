@@ -1,10 +1,20 @@
 -- `audit_named` lends what was read of each file, and writes as much as was put.
 -- Made by `places make` from answers/audit_named.ans: edit that file, and not this one.
 use mathlib.Core.Path.{sym}
+use Prim.Native.Nat.{_≤_}
+use lib.ListN.{length}
 use lib.Seq.{length-take-le}
+use Rattle.programs.proofs.Planning.{read-all}
 use borrow.Author.Needs.{needs}
 use Rattle.audit.proofs.audit_named.Statement.{statement}
 use Rattle.audit.proofs.audit_named.Tie as tie
+
+-- the line lies within what was lent
+line-within : (c : tie.After-audit-line) → c .audit-line .result ≤ length (c .audit-line .last .1 .1 .1 .1 .1 .1 .0)
+line-within c =
+    c .audit-line .ensures _ _ _ (read-all (c .before .before .before .before .before .before .before .before .before .before .before .before .before .before .before .before .before .read-named .last .1 .1 .0) (c .before .before .before .before .before .before .before .before .before .before .before .before .before .before .before .before .before .read-named .result .length))
+    (read-all (c .before .before .before .before .before .before .before .before .before .before .before .before .read-named2 .last .1 .1 .0) (c .before .before .before .before .before .before .before .before .before .before .before .before .read-named2 .result .length))
+    (read-all (c .before .before .before .before .before .before .before .read-named3 .last .1 .1 .0) (c .before .before .before .before .before .before .before .read-named3 .result .length)) .line .within
 
 large-buffer-requires : tie.Need-large-buffer-requires
 large-buffer-requires c κs = search needs
@@ -45,35 +55,14 @@ read-named-requires-3 c κs = search needs
 returns-3 : tie.Need-returns-3
 returns-3 c = search needs
 
-array-share-prefix-file : tie.Need-array-share-prefix-file
-array-share-prefix-file c = c .before .before .before .before .before .before .before .before .before .before .before .before .read-named .ensures
-
-slice-aggregate-audit-line : tie.Need-slice-aggregate-audit-line
-slice-aggregate-audit-line c = sym (length-take-le _ _ (c .before .before .before .before .before .before .before .before .before .before .before .before .before .read-named .ensures))
-
-array-share-prefix-values : tie.Need-array-share-prefix-values
-array-share-prefix-values c = c .before .before .before .before .before .before .before .before .read-named2 .ensures
-
-slice-aggregate-audit-line-2 : tie.Need-slice-aggregate-audit-line-2
-slice-aggregate-audit-line-2 c = sym (length-take-le _ _ (c .before .before .before .before .before .before .before .before .before .read-named2 .ensures))
-
-array-share-prefix-picks : tie.Need-array-share-prefix-picks
-array-share-prefix-picks c = c .before .before .before .before .read-named3 .ensures
-
-slice-aggregate-audit-line-3 : tie.Need-slice-aggregate-audit-line-3
-slice-aggregate-audit-line-3 c = sym (length-take-le _ _ (c .before .before .before .before .before .read-named3 .ensures))
-
-slice-aggregate-audit-line-4 : tie.Need-slice-aggregate-audit-line-4
-slice-aggregate-audit-line-4 c = search needs
-
 audit-line-requires : tie.Need-audit-line-requires
 audit-line-requires c κs = search needs
 
 array-share-prefix-out : tie.Need-array-share-prefix-out
-array-share-prefix-out c = c .before .audit-line .ensures .0 .within
+array-share-prefix-out c = line-within c
 
 slice-aggregate-write-all : tie.Need-slice-aggregate-write-all
-slice-aggregate-write-all c = sym (length-take-le _ _ (c .before .before .audit-line .ensures .0 .within))
+slice-aggregate-write-all c = sym (length-take-le _ _ (line-within (c .before)))
 
 write-all-requires : tie.Need-write-all-requires
 write-all-requires c κs = search needs
@@ -110,13 +99,6 @@ audit-named-spec =
     slice-aggregate-read-named-6
     read-named-requires-3
     returns-3
-    array-share-prefix-file
-    slice-aggregate-audit-line
-    array-share-prefix-values
-    slice-aggregate-audit-line-2
-    array-share-prefix-picks
-    slice-aggregate-audit-line-3
-    slice-aggregate-audit-line-4
     audit-line-requires
     array-share-prefix-out
     slice-aggregate-write-all

@@ -1,7 +1,7 @@
 -- `open_at_start` answers the audit's refusal, or the record at the start.
 -- Made by `places make` from answers/open_at_start.ans: edit that file, and not this one.
 use Prim.Native.Nat.{ℕ}
-use mathlib.Core.Path.{refl, _∙_, sym, ap}
+use mathlib.Core.Path.{_∙_, sym, ap}
 use lib.ListN.{length-replicate}
 use mir.Syntax.{w64}
 use mir.ValLaws.{toZ-ofZ}
@@ -36,7 +36,7 @@ start-of-requires c κs = c .before .before .audit-file .ensures .walkable _ (ap
 returns-2 : tie.Need-returns-2
 returns-2 c =
     opening-done (c .before .before .before .before .before .before .before .before .args .file .now) (c .before .before .before .before .before .before .before .before .args .values .now) (c .before .before .before .before .before .before .before .before .args .picks .now) (c .before .before .before .before .before .before .before .before .args .w)
-    (sym (c .before .before .before .audit-file .ensures .answer) ∙ ap auditedOf (c .before .enum-told .given .1)) refl
+    (sym (c .before .before .before .audit-file .ensures .answer) ∙ ap auditedOf (c .before .enum-told .given .1))
     (ap (λ (s : ℕ). record { state = s; moves = 0; seconds = 0; mark = 0 }) (c .start-of .ensures))
 
 pub open-at-start-spec : {M : Type 1} → statement M

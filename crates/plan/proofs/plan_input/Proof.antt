@@ -1,10 +1,23 @@
 -- `plan_input` lends what was read, writes as much as was put, and saves the entries of the states.
 -- Made by `places make` from answers/plan_input.ans: edit that file, and not this one.
 use mathlib.Core.Path.{sym}
+use Prim.Native.Nat.{_≤_}
+use lib.ListN.{length}
 use lib.Seq.{length-take-le}
+use Rattle.programs.proofs.Planning.{read-all}
 use borrow.Author.Needs.{needs}
 use Rattle.plan.proofs.plan_input.Statement.{statement}
 use Rattle.plan.proofs.plan_input.Tie as tie
+
+-- what is told lies within what was lent
+text-within : (c : tie.After-plan) → c .plan .result .length ≤ length (c .plan .last .1 .1 .1 .1 .0)
+text-within c = c .plan .ensures _ (read-all (c .before .before .before .before .before .before .before .before .read-whole .last .1 .0) (c .before .before .before .before .before .before .before .before .read-whole .result .length)) .text .within
+
+values-hold : (c : tie.After-plan) → c .plan .result .states ≤ length (c .plan .last .1 .1 .0)
+values-hold c = c .plan .ensures _ (read-all (c .before .before .before .before .before .before .before .before .read-whole .last .1 .0) (c .before .before .before .before .before .before .before .before .read-whole .result .length)) .values-hold
+
+picks-hold : (c : tie.After-plan) → c .plan .result .states ≤ length (c .plan .last .1 .1 .1 .0)
+picks-hold c = c .plan .ensures _ (read-all (c .before .before .before .before .before .before .before .before .read-whole .last .1 .0) (c .before .before .before .before .before .before .before .before .read-whole .result .length)) .picks-hold
 
 large-buffer-requires : tie.Need-large-buffer-requires
 large-buffer-requires c κs = search needs
@@ -28,28 +41,25 @@ returns : tie.Need-returns
 returns c = search needs
 
 array-share-prefix-file : tie.Need-array-share-prefix-file
-array-share-prefix-file c = c .before .before .read-whole .ensures
+array-share-prefix-file c = c .before .before .before .read-whole .ensures
 
-slice-aggregate-plan : tie.Need-slice-aggregate-plan
-slice-aggregate-plan c = sym (length-take-le _ _ (c .before .before .before .read-whole .ensures))
+slice-aggregate-can-save : tie.Need-slice-aggregate-can-save
+slice-aggregate-can-save c = sym (length-take-le _ _ (c .before .before .before .before .read-whole .ensures))
 
-slice-aggregate-plan-2 : tie.Need-slice-aggregate-plan-2
-slice-aggregate-plan-2 c = search needs
+can-save-requires : tie.Need-can-save-requires
+can-save-requires c κs = search needs
 
-slice-aggregate-plan-3 : tie.Need-slice-aggregate-plan-3
-slice-aggregate-plan-3 c = search needs
-
-slice-aggregate-plan-4 : tie.Need-slice-aggregate-plan-4
-slice-aggregate-plan-4 c = search needs
+returns-2 : tie.Need-returns-2
+returns-2 c = search needs
 
 plan-requires : tie.Need-plan-requires
 plan-requires c κs = search needs
 
 array-share-prefix-out : tie.Need-array-share-prefix-out
-array-share-prefix-out c = c .before .before .before .plan .ensures .text .within
+array-share-prefix-out c = text-within c
 
 slice-aggregate-write-all : tie.Need-slice-aggregate-write-all
-slice-aggregate-write-all c = sym (length-take-le _ _ (c .before .before .before .before .plan .ensures .text .within))
+slice-aggregate-write-all c = sym (length-take-le _ _ (text-within (c .before)))
 
 write-all-requires : tie.Need-write-all-requires
 write-all-requires c κs = search needs
@@ -64,25 +74,25 @@ fail-requires-2 : tie.Need-fail-requires-2
 fail-requires-2 c κs = search needs
 
 array-share-prefix-values : tie.Need-array-share-prefix-values
-array-share-prefix-values c = c .before .before .before .before .before .before .before .before .plan .ensures .values-hold
+array-share-prefix-values c = values-hold (c .before .before .before .before .before)
 
-slice-aggregate-save-named : tie.Need-slice-aggregate-save-named
-slice-aggregate-save-named c = sym (length-take-le _ _ (c .before .before .before .before .before .before .before .before .before .plan .ensures .values-hold))
+slice-aggregate-save : tie.Need-slice-aggregate-save
+slice-aggregate-save c = sym (length-take-le _ _ (values-hold (c .before .before .before .before .before .before)))
 
 array-share-prefix-picks : tie.Need-array-share-prefix-picks
-array-share-prefix-picks c = c .before .before .before .before .before .before .before .before .before .plan .ensures .picks-hold
+array-share-prefix-picks c = picks-hold (c .before .before .before .before .before .before)
 
-slice-aggregate-save-named-2 : tie.Need-slice-aggregate-save-named-2
-slice-aggregate-save-named-2 c = sym (length-take-le _ _ (c .before .before .before .before .before .before .before .before .before .before .plan .ensures .picks-hold))
+slice-aggregate-save-2 : tie.Need-slice-aggregate-save-2
+slice-aggregate-save-2 c = sym (length-take-le _ _ (picks-hold (c .before .before .before .before .before .before .before)))
 
-save-named-requires : tie.Need-save-named-requires
-save-named-requires c κs = search needs
-
-returns-2 : tie.Need-returns-2
-returns-2 c = search needs
+save-requires : tie.Need-save-requires
+save-requires c κs = search needs
 
 returns-3 : tie.Need-returns-3
 returns-3 c = search needs
+
+returns-4 : tie.Need-returns-4
+returns-4 c = search needs
 
 pub plan-input-spec : {M : Type 1} → statement M
 plan-input-spec =
@@ -96,10 +106,9 @@ plan-input-spec =
     fail-requires
     returns
     array-share-prefix-file
-    slice-aggregate-plan
-    slice-aggregate-plan-2
-    slice-aggregate-plan-3
-    slice-aggregate-plan-4
+    slice-aggregate-can-save
+    can-save-requires
+    returns-2
     plan-requires
     array-share-prefix-out
     slice-aggregate-write-all
@@ -108,9 +117,9 @@ plan-input-spec =
     slice-aggregate-fail-4
     fail-requires-2
     array-share-prefix-values
-    slice-aggregate-save-named
+    slice-aggregate-save
     array-share-prefix-picks
-    slice-aggregate-save-named-2
-    save-named-requires
-    returns-2
-    returns-3)
+    slice-aggregate-save-2
+    save-requires
+    returns-3
+    returns-4)

@@ -1,15 +1,40 @@
 -- `audit_line` audits what it read of the tables, which has the audit of the whole tables, and puts its line.
 -- Made by `places make` from answers/audit_line.ans: edit that file, and not this one.
-use mathlib.Core.Path.{_∙_, sym, ap}
-use native.Mathlib.Nat.{le-trans}
+use mathlib.Core.Path.{_≡_, refl, _∙_, sym}
+use Prim.Native.Nat.{_*_, _≤_, _<_}
+use lib.ListN.{length}
 use lib.Seq.{length-take-le}
-use Rattle.model.specs.Lines.{auditLine}
+use Rattle.model.specs.Buffers.{lineMost}
+use Rattle.model.specs.Limits.{maxStates}
 use Rattle.guarantee.specs.Answers.{audited-known}
-use Rattle.printing.proofs.Putting.{same, uncut}
-use Rattle.programs.proofs.Planning.{audit-read}
+use Rattle.guarantee.specs.Prefixes.{longestFile}
+use Rattle.programs.proofs.Planning.{read-front, audit-read, audits}
 use borrow.Author.Needs.{needs}
+use native.Mathlib.Omega.{arith}
 use Rattle.programs.proofs.audit_line.Statement.{statement}
 use Rattle.programs.proofs.audit_line.Tie as tie
+
+-- the rooms of what is lent
+file-long : (c : tie.After-front) → longestFile < length (c .before .before .args .file .now)
+file-long c = omega (arith, c .front .ok)
+
+values-long : (c : tie.After-front2) → length (c .before .before .before .before .args .values .now) ≡ 4 * maxStates
+values-long c = omega (arith, c .front2 .ok)
+
+picks-long : (c : tie.After-front3) → length (c .before .before .before .before .before .before .args .picks .now) ≡ 2 * maxStates
+picks-long c = omega (arith, c .front3 .ok)
+
+out-wide : (c : tie.After-audit-text) → lineMost ≤ length (c .before .before .before .before .before .before .before .before .before .before .before .before .before .before .before .before .before .args .out .now)
+out-wide c = omega (arith, c .audit-text .ok)
+
+front-requires : tie.Need-front-requires
+front-requires c κs = search needs
+
+front-requires-2 : tie.Need-front-requires-2
+front-requires-2 c κs = search needs
+
+front-requires-3 : tie.Need-front-requires-3
+front-requires-3 c κs = search needs
 
 slice-aggregate-values-of : tie.Need-slice-aggregate-values-of
 slice-aggregate-values-of c = search needs
@@ -41,21 +66,24 @@ audit-requires c κs = search needs
 audit-text-requires : tie.Need-audit-text-requires
 audit-text-requires c κs = search needs
 
-same-length : tie.Need-same-length
-same-length c = c .before .before .audit-text .kept .1 .0
-
 returns : tie.Need-returns
 returns c =
-    let e =
-    audited-known (c .before .before .before .before .audit .result) _ (c .before .before .before .before .audit .ensures .0)
-    ∙ audit-read _ (c .before .before .before .before .before .before .before .before .before .before .before .values-of .kept .1 .0) (c .before .before .before .before .before .before .before .before .picks-of .kept .1 .0) (c .before .before .before .before .before .before .before .before .before .before .before .values-of .ensures) (c .before .before .before .before .before .before .before .before .picks-of .ensures) in
-    let h = same (ap auditLine e) (c .before .before .audit-text .ensures .0) in
-    (h, λ l. uncut h (rw (← e) (le-trans (c .before .before .audit-text .ensures .1) l)))
+    λ f v p file values picks.
+    audits
+    (audited-known (c .before .before .audit .result) _ (c .before .before .audit .ensures .0)
+    ∙ audit-read f v p (file-long (c .before .before .before .before .before .before .before .before .before .before .before .before .before .before .before)) (read-front f (c .before .before .before .before .before .before .before .before .before .before .before .before .before .before .before .before .before .args .file .now) (c .before .before .before .before .before .before .before .before .before .before .before .before .before .before .before .before .before .args .i) refl file (c .before .before .before .before .before .before .before .before .before .before .before .before .before .before .before .front .ensures))
+    (read-front v (c .before .before .before .before .before .before .before .before .before .before .before .before .before .before .before .before .before .args .values .now) (c .before .before .before .before .before .before .before .before .before .before .before .before .before .before .before .before .before .args .j) (values-long (c .before .before .before .before .before .before .before .before .before .before .before .before .before)) values (c .before .before .before .before .before .before .before .before .before .before .before .before .before .front2 .ensures))
+    (read-front p (c .before .before .before .before .before .before .before .before .before .before .before .before .before .before .before .before .before .args .picks .now) (c .before .before .before .before .before .before .before .before .before .before .before .before .before .before .before .before .before .args .k) (picks-long (c .before .before .before .before .before .before .before .before .before .before .before)) picks (c .before .before .before .before .before .before .before .before .before .before .before .front3 .ensures))
+    (c .before .before .before .before .before .before .before .before .before .values-of .kept .1 .0) (c .before .before .before .before .before .before .picks-of .kept .1 .0) (c .before .before .before .before .before .before .before .before .before .values-of .ensures) (c .before .before .before .before .before .before .picks-of .ensures))
+    (c .audit-text .ensures .0) (c .audit-text .ensures .1) (omega (arith, out-wide c, c .audit-text .ensures .0 .long))
 
 pub audit-line-spec : {M : Type 1} → statement M
 audit-line-spec =
     tie.close
     (tie.spec
+    front-requires
+    front-requires-2
+    front-requires-3
     slice-aggregate-values-of
     values-of-requires
     slice-aggregate-picks-of
@@ -66,5 +94,4 @@ audit-line-spec =
     slice-aggregate-audit-2
     audit-requires
     audit-text-requires
-    same-length
     returns)

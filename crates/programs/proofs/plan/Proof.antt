@@ -1,14 +1,18 @@
 -- `plan` puts the text of what its run left: the states of a run lie within the tables.
 -- Made by `places make` from answers/plan.ans: edit that file, and not this one.
-use mathlib.Core.Path.{sym}
+use mathlib.Core.Path.{_≡_, refl, sym}
 use native.Mathlib.Nat.{le-trans, le-of-eq}
-use Prim.Native.Nat.{_≤_}
+use Prim.Native.Nat.{_≤_, _<_}
 use lib.ListN.{length}
 use lib.Seq.{length-take-le}
+use Rattle.model.specs.Buffers.{planRoom}
+use Rattle.model.specs.Limits.{maxStates}
 use Rattle.guarantee.specs.Answers.{answer-known}
-use Rattle.programs.proofs.Planning.{run-room, plans}
+use Rattle.guarantee.specs.Prefixes.{longestFile}
+use Rattle.programs.proofs.Planning.{run-room, plans, read-front, plans-read}
 use Rattle.programs.proofs.Remaining.{table-long, table-low}
 use borrow.Author.Needs.{needs}
+use native.Mathlib.Omega.{arith}
 use Rattle.programs.proofs.plan.Statement.{statement}
 use Rattle.programs.proofs.plan.Tie as tie
 
@@ -17,6 +21,22 @@ walk-room : (c : tie.After-run) → c .run .result .states ≤ length (c .run .l
 walk-room c =
     let room = run-room _ _ (answer-known (c .run .result .answer) _ (c .run .ensures .leaves .answer)) (c .run .ensures .states-are) in
     le-trans (room .walk-room) (le-of-eq (sym (c .run .kept .1 .1 .1 .1 .0)))
+
+-- the rooms of what is lent
+file-long : (c : tie.After-front) → longestFile < length (c .before .before .args .file .now)
+file-long c = omega (arith, c .front .ok)
+
+values-long : (c : tie.After-run) → length (c .before .before .before .before .before .before .before .args .values .now) ≡ maxStates
+values-long c = omega (arith, c .run .ok)
+
+picks-long : (c : tie.After-run) → length (c .before .before .before .before .before .before .before .args .picks .now) ≡ maxStates
+picks-long c = omega (arith, c .run .ok)
+
+out-wide : (c : tie.After-plan-text) → planRoom ≤ length (c .before .before .before .before .before .before .before .before .before .before .before .before .before .before .before .before .before .before .before .args .out .now)
+out-wide c = omega (arith, c .plan-text .ok)
+
+front-requires : tie.Need-front-requires
+front-requires c κs = search needs
 
 slice-aggregate-run : tie.Need-slice-aggregate-run
 slice-aggregate-run c = search needs
@@ -28,50 +48,41 @@ run-requires : tie.Need-run-requires
 run-requires c κs = search needs
 
 array-share-prefix-walk : tie.Need-array-share-prefix-walk
-array-share-prefix-walk c = walk-room (c .before .before .before .before .before .before .before .before .before .before .before)
+array-share-prefix-walk c = walk-room (c .before .before .before .before .before .before .before .before .before)
 
 slice-aggregate-plan-text : tie.Need-slice-aggregate-plan-text
-slice-aggregate-plan-text c = sym (length-take-le _ _ (walk-room (c .before .before .before .before .before .before .before .before .before .before .before .before)))
+slice-aggregate-plan-text c = sym (length-take-le _ _ (walk-room (c .before .before .before .before .before .before .before .before .before .before)))
 
 plan-text-requires : tie.Need-plan-text-requires
 plan-text-requires c κs =
-    let room = run-room _ _ (answer-known (c .before .before .before .before .before .before .before .before .before .before .before .before .before .run .result .answer) _ (c .before .before .before .before .before .before .before .before .before .before .before .before .before .run .ensures .leaves .answer)) (c .before .before .before .before .before .before .before .before .before .before .before .before .before .run .ensures .states-are) in
-    let listed = length-take-le _ _ (walk-room (c .before .before .before .before .before .before .before .before .before .before .before .before .before)) in
+    let room = run-room _ _ (answer-known (c .before .before .before .before .before .before .before .before .before .before .before .run .result .answer) _ (c .before .before .before .before .before .before .before .before .before .before .before .run .ensures .leaves .answer)) (c .before .before .before .before .before .before .before .before .before .before .before .run .ensures .states-are) in
+    let listed = length-take-le _ _ (walk-room (c .before .before .before .before .before .before .before .before .before .before .before)) in
     record {
       states = le-trans (le-of-eq listed) (room .few);
-      values-long = le-trans (le-of-eq listed) (le-trans (room .values-room) (le-of-eq (sym (c .before .before .before .before .before .before .before .before .before .before .before .before .before .run .kept .1 .0))));
-      picks-long = le-trans (le-of-eq listed) (le-trans (room .picks-room) (le-of-eq (sym (c .before .before .before .before .before .before .before .before .before .before .before .before .before .run .kept .1 .1 .0))));
+      values-long = le-trans (le-of-eq listed) (le-trans (room .values-room) (le-of-eq (sym (c .before .before .before .before .before .before .before .before .before .before .before .run .kept .1 .0))));
+      picks-long = le-trans (le-of-eq listed) (le-trans (room .picks-room) (le-of-eq (sym (c .before .before .before .before .before .before .before .before .before .before .before .run .kept .1 .1 .0))));
       remainders-long =
-          le-trans (le-of-eq listed) (le-trans (room .few) (le-of-eq (sym (table-long (c .before .before .before .before .before .before .before .before .before .before .before .before .before .run .ensures .remainders-are)))));
-      remainders-low = λ s l. table-low (c .before .before .before .before .before .before .before .before .before .before .before .before .before .run .ensures .remainders-are) s (room .few) (le-trans l (le-of-eq listed));
+          le-trans (le-of-eq listed) (le-trans (room .few) (le-of-eq (sym (table-long (c .before .before .before .before .before .before .before .before .before .before .before .run .ensures .remainders-are)))));
+      remainders-low = λ s l. table-low (c .before .before .before .before .before .before .before .before .before .before .before .run .ensures .remainders-are) s (room .few) (le-trans l (le-of-eq listed));
     }
-
-same-length : tie.Need-same-length
-same-length c = c .before .before .before .before .before .before .before .before .before .before .before .before .before .before .before .before .run .kept .1 .0
-
-same-length-2 : tie.Need-same-length-2
-same-length-2 c = c .before .before .before .before .before .before .before .before .before .before .before .before .before .before .before .before .run .kept .1 .1 .0
-
-same-length-3 : tie.Need-same-length-3
-same-length-3 c = c .before .before .plan-text .kept .1 .1 .1 .1 .1 .0
 
 returns : tie.Need-returns
 returns c =
-    plans _ _ _ (answer-known (c .before .before .before .before .before .before .before .before .before .before .before .before .before .before .before .before .run .result .answer) _ (c .before .before .before .before .before .before .before .before .before .before .before .before .before .before .before .before .run .ensures .leaves .answer)) (c .before .before .before .before .before .before .before .before .before .before .before .before .before .before .before .before .run .ensures .leaves .left)
-    (c .before .before .before .before .before .before .before .before .before .before .before .before .before .before .before .before .run .ensures .states-are) (walk-room (c .before .before .before .before .before .before .before .before .before .before .before .before .before .before .before .before)) (c .before .before .before .before .before .before .before .before .before .before .before .before .before .before .before .before .run .ensures .remainders-are)
-    (c .before .before .before .before .before .before .before .before .before .before .before .before .before .before .before .before .run .kept .1 .0) (c .before .before .before .before .before .before .before .before .before .before .before .before .before .before .before .before .run .kept .1 .1 .0) (c .before .before .plan-text .ensures .0) (c .before .before .plan-text .ensures .1)
+    λ f read.
+    plans-read f (file-long (c .before .before .before .before .before .before .before .before .before .before .before .before .before .before .before .before .before)) (read-front f (c .before .before .before .before .before .before .before .before .before .before .before .before .before .before .before .before .before .before .before .args .file .now) (c .before .before .before .before .before .before .before .before .before .before .before .before .before .before .before .before .before .before .before .args .read) refl read (c .before .before .before .before .before .before .before .before .before .before .before .before .before .before .before .before .before .front .ensures))
+    (plans _ _ _ (answer-known (c .before .before .before .before .before .before .before .before .before .before .before .before .run .result .answer) _ (c .before .before .before .before .before .before .before .before .before .before .before .before .run .ensures .leaves .answer)) (c .before .before .before .before .before .before .before .before .before .before .before .before .run .ensures .leaves .left)
+    (c .before .before .before .before .before .before .before .before .before .before .before .before .run .ensures .states-are) (walk-room (c .before .before .before .before .before .before .before .before .before .before .before .before)) (c .before .before .before .before .before .before .before .before .before .before .before .before .run .ensures .remainders-are) (values-long (c .before .before .before .before .before .before .before .before .before .before .before .before)) (picks-long (c .before .before .before .before .before .before .before .before .before .before .before .before))
+    (out-wide c) (c .before .before .before .before .before .before .before .before .before .before .before .before .run .kept .1 .0) (c .before .before .before .before .before .before .before .before .before .before .before .before .run .kept .1 .1 .0) (c .plan-text .ensures .0) (c .plan-text .ensures .1))
 
 pub plan-spec : {M : Type 1} → statement M
 plan-spec =
     tie.close
     (tie.spec
+    front-requires
     slice-aggregate-run
     slice-aggregate-run-2
     run-requires
     array-share-prefix-walk
     slice-aggregate-plan-text
     plan-text-requires
-    same-length
-    same-length-2
-    same-length-3
     returns)

@@ -72,6 +72,7 @@ returns-2 c =
           backup-done h _ _ _ _ l
           (given-scan h _ _ (c .before .before .before .before .before .before .before .before .before .before .before .before .before .before .before .before .before .pre .2) (c .before .before .before .before .before .before .before .before .scan .ensures .0)) (c .before .before .before .raise .ensures .0) (c .before .before .before .raise .ensures .1) (c .moves .ensures)),
       refl,
+      refl,
     )
 
 pub backup-spec : {M : Type 1} → statement M

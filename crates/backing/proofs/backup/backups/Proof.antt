@@ -20,6 +20,7 @@ Inv-loop file index values₀ picks₀ remembered₀ log₀ list n tolerance giv
     (machine values₀ picks₀ remembered₀ (take n list) (tally₀ .count) (tally₀ .moved)))
     (machine values picks remembered (take n list) (tally .count) (tally .moved)) (tally .over) i
     × (length values ≡ length values₀) × (length picks ≡ length picks₀) × (length remembered ≡ length remembered₀)
+    × (tally .row ≡ 0)
 
 abbrev μ-loop : tie.MeasureT-loop
 μ-loop file index values₀ picks₀ remembered₀ log₀ list n tolerance give tally₀ i₀ values picks remembered log tally i = n - i
@@ -37,6 +38,7 @@ loop-holds c = (
   refl,
   refl,
   refl,
+  c .before .before .before .before .before .pre .5,
 )
 
 mul-s : tie.Need-mul-s Inv-loop μ-loop
@@ -80,6 +82,7 @@ loop-again c = (
   c .before .before .before .before .before .before .before .backup .kept .1 .1 .0 ∙ (c .before .before .before .before .before .before .before .before .before .before .before .before .before .before .loop .inv .1),
   c .before .before .before .before .before .before .before .backup .kept .1 .1 .1 .0 ∙ (c .before .before .before .before .before .before .before .before .before .before .before .before .before .before .loop .inv .2),
   c .before .before .before .before .before .before .before .backup .kept .1 .1 .1 .1 .0 ∙ (c .before .before .before .before .before .before .before .before .before .before .before .before .before .before .loop .inv .3),
+  c .before .before .before .before .before .before .before .backup .ensures .2,
 )
 
 same-length-4 : tie.Need-same-length-4 Inv-loop μ-loop
@@ -92,7 +95,7 @@ same-length-6 : tie.Need-same-length-6 Inv-loop μ-loop
 same-length-6 c = c .before .loop .inv .3
 
 returns-2 : tie.Need-returns-2 Inv-loop μ-loop
-returns-2 c = (all-backed (c .before .loop .inv .0) (c .loop-test .left), c .before .loop .inv .0 .fine)
+returns-2 c = (all-backed (c .before .loop .inv .0) (c .loop-test .left), c .before .loop .inv .0 .fine, c .before .loop .inv .4)
 
 pub backups-spec : {M : Type 1} → statement M
 backups-spec =

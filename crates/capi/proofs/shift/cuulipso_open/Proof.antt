@@ -1,47 +1,31 @@
--- `cuulipso_open` hands on the opening, or 4 where there is no room.
+-- `capi::shift::cuulipso_open` meets its contract.
 -- Made by `places make` from answers/shift/cuulipso_open.ans: edit that file, and not this one.
-use Rattle.model.specs.Following.{opening}
-use Rattle.model.specs.Interface.{followerIn}
-use Rattle.model.specs.Promises.{Answered}
-use Rattle.capi.proofs.Handing.{opening-fits, hands-on, no-room}
 use borrow.Author.Needs.{needs}
 use Rattle.capi.proofs.shift.cuulipso_open.Statement.{statement}
 use Rattle.capi.proofs.shift.cuulipso_open.Tie as tie
 
--- what the opening says, of the record in its four numbers
-said : (c : tie.After-open-at-start)
-    → Answered (c .open-at-start .result .answer) (c .open-at-start .result .follower)
-    (opening (c .before .before .before .before .before .before .before .args .file .now) (c .before .before .before .before .before .before .before .args .values .now) (c .before .before .before .before .before .before .before .args .picks .now) (followerIn (c .before .before .before .before .before .before .before .args .follower .now)))
-said c = rw (← (c .before .follower-in .ensures)) (c .open-at-start .ensures)
-
-returns : tie.Need-returns
-returns c = no-room _ _ _ (c .if1 .taken)
-
+-- `cuulipso_open` reads the record from its four numbers, opens it, and writes it back.
 follower-in-requires : tie.Need-follower-in-requires
 follower-in-requires c κs = search needs
 
-open-at-start-requires : tie.Need-open-at-start-requires
-open-at-start-requires c κs = search needs
+opened-requires : tie.Need-opened-requires
+opened-requires c κs = search needs
 
-hand-on-requires : tie.Need-hand-on-requires
-hand-on-requires c κs = (
-  opening-fits (c .before .before .before .before .before .before .before .before .before .args .file .now) (c .before .before .before .before .before .before .before .before .before .args .values .now) (c .before .before .before .before .before .before .before .before .before .args .picks .now) _ (said (c .before .before)),
-  c .before .before .before .before .before .if1 .left,
-)
+put-follower-requires : tie.Need-put-follower-requires
+put-follower-requires c κs = search needs
 
 same-length : tie.Need-same-length
 same-length c = search needs
 
-returns-2 : tie.Need-returns-2
-returns-2 c = hands-on (said (c .before .before .before .before)) (c .before .before .before .before .before .before .before .if1 .left) (c .before .hand-on .ensures)
+returns : tie.Need-returns
+returns c = rw (c .put-follower .ensures, ← (c .before .before .before .before .before .follower-in .ensures)) (c .before .before .before .opened .ensures)
 
 pub cuulipso-open-spec : {M : Type 1} → statement M
 cuulipso-open-spec =
     tie.close
     (tie.spec
-    returns
     follower-in-requires
-    open-at-start-requires
-    hand-on-requires
+    opened-requires
+    put-follower-requires
     same-length
-    returns-2)
+    returns)

@@ -26,40 +26,61 @@ cast-if1 c = search needs
 
 returns : tie.Need-returns
 unfolding settingQuestions
-returns c = λ p a b d e w. let h : p .states ≤ p .start = omega arith in simp (le-ltb _ _ h)
+returns c =
+    record {
+      says = λ p a b d e w.
+          let h : p .states ≤ p .start = omega arith in simp (le-ltb _ _ h);
+      most = omega arith;
+    }
 
 returns-2 : tie.Need-returns-2
 unfolding settingQuestions
-returns-2 c = λ p a b d e w.
-    let s : p .start < p .states = omega arith in
-    let t : between 1 maxTolerance (p .tolerance) ≡ false = rw d (not-true _ (sym (c .before .before .before .before .before .out-of-range .ensures) ∙ (c .if2 .taken))) in
-    rw (lt-ltb _ _ s, t)
+returns-2 c =
+    record {
+      says = λ p a b d e w.
+          let s : p .start < p .states = omega arith in
+          let t : between 1 maxTolerance (p .tolerance) ≡ false = rw d (not-true _ (sym (c .before .before .before .before .before .out-of-range .ensures) ∙ (c .if2 .taken))) in
+          rw (lt-ltb _ _ s, t);
+      most = omega arith;
+    }
 
 returns-3 : tie.Need-returns-3
 unfolding settingQuestions
-returns-3 c = λ p a b d e w.
-    let s : p .start < p .states = omega arith in
-    let t : between 1 maxTolerance (p .tolerance) ≡ true = rw d (not-false _ (sym (c .before .before .before .before .before .before .out-of-range .ensures) ∙ (c .before .if2 .left))) in
-    let k : between 1 maxPenalty (p .penalty) ≡ false = rw e (not-true _ (sym (c .before .before .before .before .before .out-of-range2 .ensures) ∙ (c .if3 .taken))) in
-    rw (lt-ltb _ _ s, t, k)
+returns-3 c =
+    record {
+      says = λ p a b d e w.
+          let s : p .start < p .states = omega arith in
+          let t : between 1 maxTolerance (p .tolerance) ≡ true = rw d (not-false _ (sym (c .before .before .before .before .before .before .out-of-range .ensures) ∙ (c .before .if2 .left))) in
+          let k : between 1 maxPenalty (p .penalty) ≡ false = rw e (not-true _ (sym (c .before .before .before .before .before .out-of-range2 .ensures) ∙ (c .if3 .taken))) in
+          rw (lt-ltb _ _ s, t, k);
+      most = omega arith;
+    }
 
 returns-4 : tie.Need-returns-4
 unfolding settingQuestions
-returns-4 c = λ p a b d e w.
-    let s : p .start < p .states = omega arith in
-    let t : between 1 maxTolerance (p .tolerance) ≡ true = rw d (not-false _ (sym (c .before .before .before .before .before .before .before .out-of-range .ensures) ∙ (c .before .before .if2 .left))) in
-    let k : between 1 maxPenalty (p .penalty) ≡ true = rw e (not-false _ (sym (c .before .before .before .before .before .before .out-of-range2 .ensures) ∙ (c .before .if3 .left))) in
-    let m : oneOf (p .total) weightTotals ≡ false = rw w (not-true _ (sym (c .before .before .before .before .before .unknown-total .ensures) ∙ (c .if4 .taken))) in
-    rw (lt-ltb _ _ s, t, k, m)
+returns-4 c =
+    record {
+      says = λ p a b d e w.
+          let s : p .start < p .states = omega arith in
+          let t : between 1 maxTolerance (p .tolerance) ≡ true = rw d (not-false _ (sym (c .before .before .before .before .before .before .before .out-of-range .ensures) ∙ (c .before .before .if2 .left))) in
+          let k : between 1 maxPenalty (p .penalty) ≡ true = rw e (not-false _ (sym (c .before .before .before .before .before .before .out-of-range2 .ensures) ∙ (c .before .if3 .left))) in
+          let m : oneOf (p .total) weightTotals ≡ false = rw w (not-true _ (sym (c .before .before .before .before .before .unknown-total .ensures) ∙ (c .if4 .taken))) in
+          rw (lt-ltb _ _ s, t, k, m);
+      most = omega arith;
+    }
 
 returns-5 : tie.Need-returns-5
 unfolding settingQuestions
-returns-5 c = λ p a b d e w.
-    let s : p .start < p .states = omega arith in
-    let t : between 1 maxTolerance (p .tolerance) ≡ true = rw d (not-false _ (sym (c .before .before .before .before .before .before .before .out-of-range .ensures) ∙ (c .before .before .if2 .left))) in
-    let k : between 1 maxPenalty (p .penalty) ≡ true = rw e (not-false _ (sym (c .before .before .before .before .before .before .out-of-range2 .ensures) ∙ (c .before .if3 .left))) in
-    let m : oneOf (p .total) weightTotals ≡ true = rw w (not-false _ (sym (c .before .before .before .before .before .unknown-total .ensures) ∙ (c .if4 .left))) in
-    rw (lt-ltb _ _ s, t, k, m)
+returns-5 c =
+    record {
+      says = λ p a b d e w.
+          let s : p .start < p .states = omega arith in
+          let t : between 1 maxTolerance (p .tolerance) ≡ true = rw d (not-false _ (sym (c .before .before .before .before .before .before .before .out-of-range .ensures) ∙ (c .before .before .if2 .left))) in
+          let k : between 1 maxPenalty (p .penalty) ≡ true = rw e (not-false _ (sym (c .before .before .before .before .before .before .out-of-range2 .ensures) ∙ (c .before .if3 .left))) in
+          let m : oneOf (p .total) weightTotals ≡ true = rw w (not-false _ (sym (c .before .before .before .before .before .unknown-total .ensures) ∙ (c .if4 .left))) in
+          rw (lt-ltb _ _ s, t, k, m);
+      most = omega arith;
+    }
 
 pub bad-setting-spec : {M : Type 1} → statement M
 bad-setting-spec =

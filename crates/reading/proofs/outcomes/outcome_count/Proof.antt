@@ -11,7 +11,7 @@ outcomes-of-requires : tie.Need-outcomes-of-requires
 outcomes-of-requires c κs = search needs
 
 returns : tie.Need-returns
-returns c = sym (outcomes-count _ 0 _) ∙ ap length (c .outcomes-of .ensures)
+returns c = sym (outcomes-count _ 0 _) ∙ ap length (c .outcomes-of .ensures .0)
 
 pub outcome-count-spec : {M : Type 1} → statement M
 outcome-count-spec = tie.close (tie.spec outcomes-of-requires returns)

@@ -1,6 +1,6 @@
 -- `outcomes_of` answers the part of the file that the index gives to the row.
 -- Made by `places make` from answers/outcomes/outcomes_of.ans: edit that file, and not this one.
-use Rattle.reading.proofs.RowValues.{row-at, part-ordered, part-inside, part-holds}
+use Rattle.reading.proofs.RowValues.{row-at, part-ordered, part-inside, part-holds, part-is, part-long}
 use borrow.Author.Needs.{needs}
 use native.Mathlib.Omega.{arith}
 use Rattle.reading.proofs.outcomes.outcomes_of.Statement.{statement}
@@ -19,7 +19,8 @@ element-copy-out-from : tie.Need-element-copy-out-from
 element-copy-out-from c = search needs
 
 cast-from : tie.Need-cast-from
-cast-from c = omega (arith, part-ordered (row-at (c .before .pre .0) (c .before .pre .1)), part-inside (row-at (c .before .pre .0) (c .before .pre .1)))
+cast-from c =
+    omega (arith, part-ordered (row-at (c .before .pre .0) (c .before .pre .1)), part-inside (row-at (c .before .pre .0) (c .before .pre .1)))
 
 mul-to : tie.Need-mul-to
 mul-to c = search needs
@@ -37,19 +38,23 @@ element-copy-out-to : tie.Need-element-copy-out-to
 element-copy-out-to c = search needs
 
 cast-to : tie.Need-cast-to
-cast-to c = omega (arith, part-ordered (row-at (c .before .before .pre .0) (c .before .before .pre .1)), part-inside (row-at (c .before .before .pre .0) (c .before .before .pre .1)))
+cast-to c =
+    omega (arith, part-ordered (row-at (c .before .before .pre .0) (c .before .before .pre .1)), part-inside (row-at (c .before .before .pre .0) (c .before .before .pre .1)))
 
 sub-result : tie.Need-sub-result
-sub-result c = part-ordered (row-at (c .before .before .pre .0) (c .before .before .pre .1))
+sub-result c =
+    omega (arith, part-ordered (row-at (c .before .before .pre .0) (c .before .before .pre .1)), part-inside (row-at (c .before .before .pre .0) (c .before .before .pre .1)))
 
 part-result-start : tie.Need-part-result-start
-part-result-start c = part-ordered (row-at (c .before .before .pre .0) (c .before .before .pre .1))
+part-result-start c =
+    omega (arith, part-ordered (row-at (c .before .before .pre .0) (c .before .before .pre .1)), part-inside (row-at (c .before .before .pre .0) (c .before .before .pre .1)))
 
 part-result-end : tie.Need-part-result-end
-part-result-end c = part-inside (row-at (c .before .before .pre .0) (c .before .before .pre .1))
+part-result-end c =
+    omega (arith, part-ordered (row-at (c .before .before .pre .0) (c .before .before .pre .1)), part-inside (row-at (c .before .before .pre .0) (c .before .before .pre .1)))
 
 returns : tie.Need-returns
-returns c = part-holds (row-at (c .before .before .before .pre .0) (c .before .before .before .pre .1))
+returns c = let h = row-at (c .before .before .before .pre .0) (c .before .before .before .pre .1) in (part-holds h, (part-is h, part-long h))
 
 pub outcomes-of-spec : {M : Type 1} → statement M
 outcomes-of-spec =

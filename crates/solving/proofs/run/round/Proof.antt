@@ -20,6 +20,7 @@ backups-requires c κs =
       c .before .before .before .before .before .before .before .before .before .before .before .before .before .before .before .pre .1 .give,
       round-room h (c .before .before .before .before .before .before .before .walk .ensures) _ _ (c .before .before .before .before .before .before .before .before .before .before .before .before .before .before .before .pre .2),
       refl,
+      refl,
     )
 
 least-cost-requires : tie.Need-least-cost-requires
@@ -51,7 +52,8 @@ returns c =
     (λ quiet.
     quiet-least h (c .before .before .before .before .before .before .before .before .before .before .before .before .before .before .before .before .before .before .before .before .walk .ensures) _ _ (c .before .before .before .before .before .before .before .before .before .before .before .before .backups .ensures .0) (c .before .before .before .before .before .before .before .before .before .before .before .before .before .before .before .before .before .before .before .before .before .before .before .before .before .before .before .before .pre .1 .tolerance) quiet _ _
     (c .before .before .before .before .before .before .before .before .before .before .before .before .before .before .before .before .before .before .before .before .before .before .before .before .before .before .before .before .pre .1 .states) (c .least-cost .ensures))
-    (c .before .before .before .before .before .before .before .before .before .before .before .before .backups .ensures .1)
+    (λ moved. absurd (true≢false (sym moved ∙ not-true _ (c .before .before .before .before .if1 .taken))))
+    (c .before .before .before .before .before .before .before .before .before .before .before .before .backups .ensures .1) (c .before .before .before .before .before .before .before .before .before .before .before .before .backups .ensures .2)
 
 same-length-5 : tie.Need-same-length-5
 same-length-5 c = c .before .before .before .before .before .before .before .before .backups .kept .1 .1 .0
@@ -69,7 +71,8 @@ returns-2 : tie.Need-returns-2
 returns-2 c =
     round-done (c .before .before .before .before .before .before .before .before .before .before .before .before .before .before .before .before .before .before .before .before .before .before .before .before .pre .0) (c .before .before .before .before .before .before .before .before .before .before .before .before .before .before .before .before .walk .ensures) _ _ _ refl (c .before .before .before .before .before .before .before .before .backups .ensures .0)
     (λ quiet. absurd (true≢false (sym (not-false _ (c .if1 .left)) ∙ quiet)))
-    (c .before .before .before .before .before .before .before .before .backups .ensures .1)
+    (λ moved. refl)
+    (c .before .before .before .before .before .before .before .before .backups .ensures .1) (c .before .before .before .before .before .before .before .before .backups .ensures .2)
 
 pub round-spec : {M : Type 1} → statement M
 round-spec =

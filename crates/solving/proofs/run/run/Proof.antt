@@ -77,9 +77,11 @@ returns-2 c =
       ends = run-solved (c .before .before .before .before .before .before .before .before .before .before .before .before .before .before .before .before .before .before .loop .inv .0) (c .before .before .before .before .before .before .before .before .before .before .before .round .ensures) (c .before .before .before .before .before .before .before .before .before .before .before .before .before .before .before .before .before .loop-test .taken)
           (not-true _ (c .if2 .taken));
       least = λ _. c .before .before .before .before .before .before .before .before .before .before .before .round .ensures .least (not-true _ (c .if2 .taken));
+      no-least = λ q. absurd (true≢false q);
       few = c .before .before .before .before .before .before .before .before .before .before .before .round .ensures .few;
       beyond = c .before .before .before .before .before .before .before .before .before .before .before .round .ensures .beyond ∙ (c .before .before .before .before .before .before .before .before .before .before .before .before .before .before .before .before .before .before .loop .inv .0 .beyond);
       fine = refl;
+      no-row = refl;
     }
 
 loop-less : tie.Need-loop-less Inv-loop μ-loop
@@ -112,9 +114,11 @@ returns-3 c =
     record {
       ends = run-out-of-budget (c .before .loop .inv .0) (c .loop-test .left);
       least = λ q. absurd (true≢false (sym q));
+      no-least = λ _. refl;
       few = c .before .loop .inv .0 .few;
       beyond = c .before .loop .inv .0 .beyond;
       fine = refl;
+      no-row = refl;
     }
 
 pub run-spec : {M : Type 1} → statement M

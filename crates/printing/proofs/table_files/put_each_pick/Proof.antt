@@ -1,0 +1,58 @@
+-- `put_each_pick` puts entry after entry: the bytes of so many entries as turns stand there.
+-- Made by `places make` from answers/table_files/put_each_pick.ans: edit that file, and not this one.
+use Prim.Native.Nat.{_-_}
+use lib.ListN.{length, take}
+use Rattle.model.specs.TableFiles.{tableBytes}
+use Rattle.guarantee.specs.TableFiles.{no-bytes, bytes-next, bytes-all}
+use Rattle.printing.proofs.Putting.{same, grown-starts, grown-goes-on, grown-ends, Grown}
+use borrow.Author.Needs.{needs}
+use native.Mathlib.Omega.{arith}
+use Rattle.printing.proofs.table_files.put_each_pick.Statement.{statement}
+use Rattle.printing.proofs.table_files.put_each_pick.Tie as tie
+
+abbrev Inv-loop : tie.InvT-loop
+Inv-loop picks out₀ to₀ i₀ out to i = Grown (λ i. tableBytes 2 (take i picks)) (length picks) out₀ 0 out to i
+
+abbrev μ-loop : tie.MeasureT-loop
+μ-loop picks out₀ to₀ i₀ out to i = length picks - i
+
+loop-holds : tie.Need-loop-holds Inv-loop μ-loop
+loop-holds c = grown-starts (no-bytes 2) (omega arith)
+
+mul-put-pick : tie.Need-mul-put-pick Inv-loop μ-loop
+mul-put-pick c = search needs
+
+shared-slice-read-put-pick : tie.Need-shared-slice-read-put-pick Inv-loop μ-loop
+shared-slice-read-put-pick c = search needs
+
+put-pick-requires : tie.Need-put-pick-requires Inv-loop μ-loop
+put-pick-requires c κs = omega (arith, c .before .before .before .loop .inv .put .within)
+
+add-i : tie.Need-add-i Inv-loop μ-loop
+add-i c = search needs
+
+loop-less : tie.Need-loop-less Inv-loop μ-loop
+loop-less c = search needs
+
+loop-again : tie.Need-loop-again Inv-loop μ-loop
+loop-again c = grown-goes-on (c .before .before .before .before .before .before .loop .inv) _ (c .before .before .before .before .before .loop-test .taken) (bytes-next 2 _ _ (c .before .before .before .before .before .loop-test .taken)) (c .before .before .put-pick .ensures)
+
+same-length : tie.Need-same-length Inv-loop μ-loop
+same-length c = c .before .loop .inv .put .long
+
+returns : tie.Need-returns Inv-loop μ-loop
+returns c = same (bytes-all 2 _) (grown-ends (c .before .loop .inv) (c .loop-test .left))
+
+pub put-each-pick-spec : {M : Type 1} → statement M
+put-each-pick-spec =
+    tie.close
+    (tie.spec Inv-loop μ-loop
+    loop-holds
+    mul-put-pick
+    shared-slice-read-put-pick
+    put-pick-requires
+    add-i
+    loop-less
+    loop-again
+    same-length
+    returns)

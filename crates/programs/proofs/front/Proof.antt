@@ -1,0 +1,20 @@
+-- `front` is all of the bytes where there are no more than n.
+-- Made by `places make` from answers/front.ans: edit that file, and not this one.
+use mathlib.Core.Path.{sym}
+use lib.Seq.{length-take-le, take-all}
+use borrow.Author.Needs.{needs}
+use native.Mathlib.Omega.{arith}
+use Rattle.programs.proofs.front.Statement.{statement}
+use Rattle.programs.proofs.front.Tie as tie
+
+slice-aggregate-result : tie.Need-slice-aggregate-result
+slice-aggregate-result c = sym (length-take-le _ _ (omega (arith, c .before .if1 .taken)))
+
+returns : tie.Need-returns
+returns c = search needs
+
+returns-2 : tie.Need-returns-2
+returns-2 c = sym (take-all _ _ (c .if1 .left))
+
+pub front-spec : {M : Type 1} → statement M
+front-spec = tie.close (tie.spec slice-aggregate-result returns returns-2)
