@@ -11,12 +11,12 @@ use comparisons::extremes::{at_limits, deep_chain, endless};
 use comparisons::harness::Tally;
 use comparisons::limits::MAX_STATES;
 use comparisons::listing::{plan_lines, planned};
-use comparisons::programs::{run_to_end, start, Folder, Program};
+use comparisons::programs::{run_to_end, said, start, Folder, Program};
 use comparisons::random::Random;
 use comparisons::sheets::sheets;
 use comparisons::table_files::{picks_bytes, values_bytes};
 use std::ffi::{OsStr, OsString};
-use std::io::Write;
+use std::io::{Read, Write};
 use std::os::unix::ffi::OsStringExt;
 use std::os::unix::fs::{symlink, PermissionsExt};
 use std::os::unix::process::ExitStatusExt;
@@ -32,7 +32,7 @@ const LEAST: [(&str, u64); 7] = [
     ("status 3", 2),
     ("builds", 12),
     ("starts without a build", 6),
-    ("ended", 6),
+    ("ended", 8),
 ];
 /// The longest that a start on P may take where nothing changed.
 const LONGEST_START: Duration = Duration::from_millis(100);
@@ -70,9 +70,12 @@ const BUILDS: &str = "echo 'rt: low proved (2 s)'; echo said; \
     echo 'rt: plan ran, and wrote something (0 s)'; echo 'rt: ok, 3 crates proved'";
 const FAILS: &str =
     "echo 'rt: low proved (2 s)'; echo 'rt: high NOT PROVED (exit 1, 3 s)' >&2; exit 1";
+/// What one does first that is to be met while it builds: it waits for a file, though not for ever.
+const WAITS_TO_GO: &str =
+    "n=0; until [ -e \"$ROOM/go\" ] || [ $n -eq 200 ]; do sleep 0.1; n=$((n + 1)); done";
 /// A program, or an `rt`, that tells its number and goes on for long.
 const GOES_ON: &str =
-    "echo $$ >\"$ROOM/number.new\"; mv \"$ROOM/number.new\" \"$ROOM/number\"; exec sleep 600";
+    "echo $$ >\"$ROOM/number.new\"; mv \"$ROOM/number.new\" \"$ROOM/number\"; exec sleep 60";
 /// The commands that the start scripts need, and the `rt` that is made here.
 const TOOLS: [&str; 16] = [
     "awk", "cat", "cksum", "cp", "find", "flock", "mkdir", "mv", "readlink", "rm", "sed", "setsid",
@@ -360,13 +363,13 @@ impl Room {
     fn compare_two_at_once(&mut self) {
         self.tally.case = "two first starts at once".into();
         let made = Repository::new(self, 6);
-        made.rt(&format!("until [ -e \"$ROOM/go\" ]; do sleep 0.05; done; {BUILDS}"));
+        made.rt(&format!("{WAITS_TO_GO}; {BUILDS}"));
         let first = made.start();
         self.wait_for("the build", || made.calls() == 1);
         let mut second = made.start();
         let mut waits = vec![0; WAITS.len()];
         let messages = second.stderr.as_mut().expect("a pipe");
-        std::io::Read::read_exact(messages, &mut waits).expect("a line");
+        drop(messages.read_exact(&mut waits));
         self.tally.hold("what the second says", &waits[..], WAITS.as_bytes());
         made.folder.put("go", Some(&[]));
         self.hold_ended(&first.wait_with_output().expect("output"), &[FIRST, PROVED], 0);
@@ -376,7 +379,7 @@ impl Room {
 
     /// A script that is ended ends its program, or the building of it, of which nothing is known then.
     fn compare_ended(&mut self) {
-        for (number, signal) in [(1, "HUP"), (2, "INT"), (15, "TERM")] {
+        for (number, signal) in [(1, "HUP"), (2, "INT"), (3, "QUIT"), (15, "TERM")] {
             let made = Repository::new(self, 7);
             made.rt(GOES_ON);
             self.hold_ending("a build", &made, number, signal);
@@ -396,17 +399,19 @@ impl Room {
     fn hold_ending(&mut self, what: &str, made: &Repository, number: i32, signal: &str) {
         self.tally.case = format!("{what} that is ended by {signal}");
         self.tally.count("ended");
-        let child = made.start();
+        let mut child = made.start();
         self.wait_for("its number", || made.folder.get("number").is_some());
         let told = made.folder.get("number").unwrap_or_default();
         let told = String::from_utf8_lossy(&told).trim().to_string();
         self.tally.hold("whether it goes on", &goes_on(&told), &true);
-        let kill = Command::new("kill").args(["-s", signal, &child.id().to_string()]).status();
-        assert!(kill.expect("kill").success());
-        let ended = child.wait_with_output().expect("output");
-        self.tally.hold("the signal", &ended.status.signal(), &Some(number));
-        self.tally.hold("the lines", &ended.stdout[..], &[]);
+        send(signal, &child.id().to_string());
+        let ended = child.wait().expect("its status");
+        self.tally.hold("the signal", &ended.signal(), &Some(number));
         self.wait_for("its end", || !goes_on(&told));
+        if goes_on(&told) {
+            send("KILL", &told);
+        }
+        self.tally.hold("what is said", &said(child).output.as_str(), &"");
         made.folder.put("number", None);
     }
 
@@ -541,13 +546,19 @@ impl Repository {
         let bin = if self.has_rt { "bin" } else { "nothing" };
         let path = [bin, "tools"].map(|name| self.folder.path(name).display().to_string());
         let mut command = Command::new("env");
-        command.args(["--default-signal=HUP,INT,TERM", &format!("PATH={}", path.join(":"))]);
+        command.args(["--default-signal=HUP,INT,QUIT,TERM", &format!("PATH={}", path.join(":"))]);
         command.arg(self.folder.path("plan")).env("PROGRAM", &self.program);
         command.env("ROOM", self.folder.path(""));
         self.folder.put("P", Some(&file_p().bytes()));
         let input = std::fs::File::open(self.folder.path("P")).expect("P");
         start(command.stdin(input))
     }
+}
+
+/// Sends a signal to the process of a number.
+fn send(signal: &str, number: &str) {
+    let sent = Command::new("kill").args(["-s", signal, number]).status();
+    assert!(sent.expect("kill").success());
 }
 
 /// Whether the process of a number goes on; one that has ended may be listed until someone asks for it.
