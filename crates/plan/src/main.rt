@@ -191,22 +191,44 @@ fn do_clash(name: &[u8], part: &[u8], name2: &[u8], part2: &[u8]) -> bool
     are_equal(part, name2)
 }
 
+// Whether both names can take their tables while the part files are there, which are empty: neither is a part file in another spelling.
+fn are_apart(name: &[u8], bytes: usize, name2: &[u8], bytes2: usize) -> bool {
+    let there = look(name);
+    if !may_take(there, bytes) {
+        return false;
+    }
+    let there2 = look(name2);
+    may_take(there2, bytes2)
+}
+
 // Whether both part files can be made, which is tried with empty ones; where one cannot, that is said. Those of an earlier run are removed.
-fn can_be_made(name: &[u8], part: &[u8], name2: &[u8], part2: &[u8]) -> bool {
+fn can_be_made(
+    name: &[u8],
+    part: &[u8],
+    bytes: usize,
+    name2: &[u8],
+    part2: &[u8],
+    bytes2: usize,
+) -> bool {
     os::unlink(part);
     os::unlink(part2);
     if !write_part(name, part, b"") {
         return false;
     }
-    let is_made = write_part(name2, part2, b"");
-    os::unlink(part);
-    if is_made {
-        os::unlink(part2);
+    if !write_part(name2, part2, b"") {
+        os::unlink(part);
+        return false;
     }
-    is_made
+    let is_apart = are_apart(name, bytes, name2, bytes2);
+    os::unlink(part);
+    os::unlink(part2);
+    if !is_apart {
+        complain(b"plan: VALUES and PICKS need two names\n");
+    }
+    is_apart
 }
 
-// Whether two names can take tables of so many bytes; where one cannot, that is said, and nothing has changed.
+// Whether two names can take tables of so many bytes; where not, that is said, and no file is lost.
 fn are_ready(
     name: &[u8],
     part: &[u8],
@@ -225,7 +247,7 @@ fn are_ready(
     if !is_free(name2, part2, bytes2) {
         return false;
     }
-    can_be_made(name, part, name2, part2)
+    can_be_made(name, part, bytes, name2, part2, bytes2)
 }
 
 // Whether two names can take the tables of a file. A file that is refused has none.

@@ -275,6 +275,8 @@ impl Room {
             ["folder/../new", "new"],
             ["new", "new.part"],
             ["new.part", "new"],
+            ["new", "./new.part"],
+            ["./new.part", "new"],
         ] {
             self.tally.case = format!("one name for both tables, {names:?}");
             let said = self.plan.run(&self.folder, &names, &file);
