@@ -405,7 +405,9 @@ impl Room {
         self.tally.hold("whether it goes on", &goes_on(&told), &true);
         send(signal, &child.id().to_string());
         let ended = child.wait().expect("its status");
-        self.tally.hold("the signal", &ended.signal(), &Some(number));
+        // Some shells cannot end by QUIT.
+        let is_told = ended.signal() == Some(number) || (number == 3 && ended.code() == Some(2));
+        self.tally.hold("whether it ended by the signal", &is_told, &true);
         self.wait_for("its end", || !goes_on(&told));
         if goes_on(&told) {
             send("KILL", &told);
