@@ -6,8 +6,8 @@
  * What the caller sees to: the tables, the file, the answer and the record that are lent to one call do not overlap; each is aligned as
  * an array of its entries is, a file to any byte; a pointer may be anything only where its number of entries is 0.
  *
- * Stack, measured on the deepest file (docs/MEASURED.md): 176 KiB. A thread may have less than the main program, so give one that
- * makes these calls 256 KiB. */
+ * Stack, measured on the deepest file (docs/MEASURED.md): solve, audit, open and report need 176 KiB, set_form 84 KiB, check and rows 48 KiB.
+ * A thread may have less than the main program: give one that makes these calls 256 KiB. */
 #ifndef CUULIPSO_H
 #define CUULIPSO_H
 

@@ -133,9 +133,9 @@ fn measure(name: &str, command: &Command, input: &[u8], asked: &str) {
 
 fn main() {
     let words: Vec<String> = std::env::args().collect();
-    if let [_, word, function, kib] = &words[..] {
-        assert_eq!(word, "child");
-        return child(function, kib);
+    match &words[..] {
+        [_, word, function, kib] if word == "child" => return child(function, kib),
+        _ => {}
     }
     for function in ["solve", "audit", "check", "rows", "open", "report", "set_form"] {
         println!("cuulipso_{function}: {} KiB of stack", least(|kib| library_does(function, kib)));
