@@ -1,4 +1,5 @@
--- What question 24 gives of the weight total: it is 1 to 10,000. No other law asks more of it than that it is at least 1, or that it fits.
+-- What question 24 gives of the weight total: it is 1 to 10,000. No other law, but that an encoded file
+-- passes 24, asks more of it than that it is at least 1, or that it fits.
 -- What a test says of each of a few numbers, it says of a number that is one of them.
 use mathlib.Core.Path.{_≡_, refl, sym, _∙_}
 use Prim.Native.Nat.{ℕ, _≤_}

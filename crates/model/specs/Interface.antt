@@ -68,12 +68,12 @@ pub record HandsBack (s : Solution) (lent left : Tables) (before after : List �
   pub numbers-are : Written (plainNumbers (answerCarries (s .answer))) before after r
   pub tables-are : left ≡ leftOn (leb 3 (length before)) (s .tables) lent
 
--- Following (E2). "The record is a C struct of four 64-bit numbers (state, moves, seconds, mark: 0 clear, anything else set)". An opening
--- has it as those numbers
+-- Following (E2). The record is a C struct of four 64-bit numbers, `Follower`; its mark is 0 clear, anything else set. An opening has it as
+-- those numbers
 abbrev pub followerIn : List ℕ → Follower
 followerIn l = record { state = getD l 0 0; moves = getD l 1 0; seconds = getD l 2 0; mark = getD l 3 0 }
 
--- what following hands back: the numbers, and the record; "4 .. and then nothing is written"
+-- what following hands back: the numbers, and the record; where `answer` has fewer than 3 entries both are as they were
 pub record HandsOn (r : Report) (lent left : Follower) (before after : List ℤ) (status : ℕ) : Type 0 where
   pub numbers-are : Written (signedNumbers (followedCarries (r .answer) (r .left))) before after status
   pub record-is : left ≡ leftOn (leb 3 (length before)) (r .left) lent

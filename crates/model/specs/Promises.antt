@@ -1,5 +1,5 @@
 -- What the calls promise beyond the definitions' own answers: the clauses of the contracts of `solve`, `audit`,
--- of following, and of the programs `plan` and `audit`.
+-- of following, of set forms, and of the programs `plan` and `audit`.
 use mathlib.Core.Path.{_≡_}
 use Prim.Native.Nat.{ℕ, suc, _+_, _-_, _*_, _≤_}
 use mathlib.Core.Bool.{Bool, true}

@@ -228,7 +228,7 @@ fn can_be_made(
     is_apart
 }
 
-// Whether two names can take tables of so many bytes; where not, that is said, and no file is lost.
+// Whether two names can take tables of so many bytes; where not, that is said, and no file is lost but part files of an earlier run.
 fn are_ready(
     name: &[u8],
     part: &[u8],

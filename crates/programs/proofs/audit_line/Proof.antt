@@ -1,4 +1,4 @@
--- `audit_line` audits what it read of the tables, which has the audit of the whole tables, and puts its line.
+-- `audit_line` audits what was read of the file and the tables, which has the audit of the whole, and puts its line.
 -- Made by `places make` from answers/audit_line.ans: edit that file, and not this one.
 use mathlib.Core.Path.{_≡_, refl, _∙_, sym}
 use Prim.Native.Nat.{_*_, _≤_, _<_}
