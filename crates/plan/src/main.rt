@@ -21,10 +21,12 @@ use programs::files::are_names;
 use programs::files::fail;
 use programs::files::read_whole;
 ghost use mathlib.Core.Path.{_≡_};
-ghost use mathlib.Core.List.{_++_};
-ghost use Rattle.model.specs.Buffers.{Holds};
+ghost use Prim.Native.Nat.{ℕ, _≤_};
+ghost use mathlib.Core.List.{List, _++_};
+ghost use lib.ListN.{length, take};
+ghost use Rattle.model.specs.Buffers.{Holds, ReadOf};
 ghost use Rattle.model.specs.Lines.{codes};
-ghost use Rattle.plan.specs.Names.{sameName, clashing, takes, clears};
+ghost use Rattle.plan.specs.Names.{nameMost, Named, sameName, clashing, takes, clears, Shows};
 
 // One byte more than any table has: a value has more of them than a pick.
 const LOOK: usize = VALUES_ROOM + 1;
@@ -54,6 +56,24 @@ enum There {
     Other,
 }
 
+// How many of these bytes were read: all, where `read` is no fewer.
+fn count_of(bytes: &[u8], read: usize) -> usize
+    ensures { λ r. ⌜ r ≡ length (take read (now (bytes .entry))) ⌝ }
+{
+    if read < bytes.len() {
+        return read;
+    }
+    bytes.len()
+}
+
+// A file of which `read` bytes are in `bytes`, as many as there is room for: that shows whether it is just as long as a table, since any
+// table has fewer.
+fn seen(bytes: &[u8; LOOK], read: usize) -> There
+    ensures { λ r. ⌜ ((f : List ℕ) → ReadOf f (now (bytes .entry)) read → Shows f r) ⌝ }
+{
+    There::Bytes(count_of(bytes, read))
+}
+
 // Looks at a name, as far as tables go: a longer file has `LOOK` bytes. Where it is anything else, errno says why. A name of no bytes, which
 // no file can have, is among these, and a pipe, which has no position.
 fn look(name: &[u8]) -> There {
@@ -74,7 +94,7 @@ fn look(name: &[u8]) -> There {
     if got.failed {
         return There::Other;
     }
-    There::Bytes(got.length)
+    seen(&bytes, got.length)
 }
 
 // Whether a table of so many bytes may take a name: it replaces nothing but a file that is exactly as long. A problem file is longer than
@@ -154,8 +174,10 @@ fn place(name: &[u8], part: &[u8]) -> bool {
 }
 
 // The name of a part file: the table's name and `.part`.
-fn part_of(name: &[u8], part: &mut [u8]) -> usize
+fn part_of(name: &[u8], part: &mut [u8; PART]) -> usize
+    requires { ⌜ length (now name) ≤ nameMost ⌝ }
     ensures { λ r. ⌜ Holds (now (part .entry)) (now (part .exit)) r (now (name .entry) ++ codes ".part") ⌝ }
+    ensures whole { λ r. ⌜ take r (now (part .exit)) ≡ now (name .entry) ++ codes ".part" ⌝ }
 {
     let n = put(part, 0, name);
     put(part, n, b".part")
@@ -250,55 +272,61 @@ fn are_ready(
     can_be_made(name, part, bytes, name2, part2, bytes2)
 }
 
-// Whether two names can take the tables of a file. A file that is refused has none.
-fn can_save(file: &[u8], values_name: &[u8], picks_name: &[u8]) -> bool {
+// Whether two names can take the tables of a file, its values and its picks. A file that is refused has none.
+fn can_save(file: &[u8], name: &[u8], name2: &[u8]) -> bool
+    requires { ⌜ Named (now name) (now name2) ⌝ }
+{
     let states = states_in(file);
     if states == 0 {
         return true;
     }
     let mut first = [0u8; PART];
-    let i = part_of(values_name, &mut first);
+    let i = part_of(name, &mut first);
     let mut second = [0u8; PART];
-    let j = part_of(picks_name, &mut second);
+    let j = part_of(name2, &mut second);
     are_ready(
-        values_name,
+        name,
         &first[..i],
         VALUE_BYTES * states,
-        picks_name,
+        name2,
         &second[..j],
         PICK_BYTES * states,
     )
 }
 
 // Writes both part files, and gives them their names once both are whole. The names are looked at once more, since a run may take long.
-fn save(values_name: &[u8], values: &[u32], picks_name: &[u8], picks: &[u16]) {
+fn save(name: &[u8], values: &[u32], name2: &[u8], picks: &[u16])
+    requires { ⌜ Named (now name) (now name2) ⌝ }
+{
     let mut first = [0u8; PART];
-    let i = part_of(values_name, &mut first);
+    let i = part_of(name, &mut first);
     let mut second = [0u8; PART];
-    let j = part_of(picks_name, &mut second);
+    let j = part_of(name2, &mut second);
     let mut value_bytes = [0u8; VALUES_ROOM];
     let n = put_values(values, &mut value_bytes);
     let mut pick_bytes = [0u8; PICKS_ROOM];
     let m = put_picks(picks, &mut pick_bytes);
-    if !are_ready(values_name, &first[..i], n, picks_name, &second[..j], m) {
+    if !are_ready(name, &first[..i], n, name2, &second[..j], m) {
         return;
     }
-    if !write_part(values_name, &first[..i], &value_bytes[..n]) {
+    if !write_part(name, &first[..i], &value_bytes[..n]) {
         return;
     }
-    if !write_part(picks_name, &second[..j], &pick_bytes[..m]) {
+    if !write_part(name2, &second[..j], &pick_bytes[..m]) {
         os::unlink(&first[..i]);
         return;
     }
-    if !place(values_name, &first[..i]) {
+    if !place(name, &first[..i]) {
         os::unlink(&second[..j]);
         return;
     }
-    place(picks_name, &second[..j]);
+    place(name2, &second[..j]);
 }
 
-// A file is at most 55,320 bytes long, and a longer input gets the same answer as its first 65,536 bytes (`Plans`).
-fn plan_input(is_saving: bool, values_name: &[u8], picks_name: &[u8]) {
+// Plans the input, and saves its values and picks under two names. A file is at most 55,320 bytes long, and a longer input gets the same answer as its first 65,536 bytes (`Plans`).
+fn plan_input(is_saving: bool, name: &[u8], name2: &[u8])
+    requires { ⌜ Named (now name) (now name2) ⌝ }
+{
     let mut file = io::large_buffer();
     let got = read_whole(STDIN_FILENO, &mut file);
     if got.failed {
@@ -306,7 +334,7 @@ fn plan_input(is_saving: bool, values_name: &[u8], picks_name: &[u8]) {
         return;
     }
     let n = got.length;
-    if is_saving && !can_save(&file[..n], values_name, picks_name) {
+    if is_saving && !can_save(&file[..n], name, name2) {
         return;
     }
     let mut values = [0u32; MAX_STATES];
@@ -319,7 +347,7 @@ fn plan_input(is_saving: bool, values_name: &[u8], picks_name: &[u8]) {
         fail(b"plan", b"standard output");
     }
     if is_saving && 0 < states {
-        save(values_name, &values[..states], picks_name, &picks[..states]);
+        save(name, &values[..states], name2, &picks[..states]);
     }
 }
 

@@ -1,6 +1,6 @@
 //! Tries the programs on names that cannot be read or written, on names of files that are no tables, on
-//! names that begin with `-`, and on too few and too many of them: there is a message on standard error,
-//! nothing is lost, and there is no table that is not whole.
+//! the longest names, on names that begin with `-`, and on too few and too many of them: there is a
+//! message on standard error, nothing is lost, and there is no table that is not whole.
 //!
 //! `compare_names [plan] [audit] [sheet]`
 
@@ -21,7 +21,7 @@ use std::process::{Command, ExitCode};
 /// How often each must be met.
 const LEAST: [(&str, u64); 5] = [
     ("names that cannot be written", 28),
-    ("names of other files", 24),
+    ("names of other files", 30),
     ("part files", 12),
     ("names with a dash", 20),
     ("names that cannot be read", 21),
@@ -180,6 +180,41 @@ impl Room {
             self.compare_taken("new", "other", &taken("other", OLD_PICKS.len()), input(self));
         }
         self.restore(&[OsStr::new("other")]);
+    }
+
+    /// Files about as long as the longest tables, and longer than any, under the names of these.
+    fn compare_longest(&mut self) {
+        let file = at_limits(&mut Random::new(0), true, 5_000, None).bytes();
+        self.folder.put("limits", Some(&file));
+        for (name, longest) in [("values", 4 * MAX_STATES), ("picks", 2 * MAX_STATES)] {
+            for length in [longest - 1, longest + 1, 100_000] {
+                self.folder.put(name, Some(&vec![b'o'; length]));
+                let input = File::open(self.folder.path("limits")).expect("a file");
+                self.compare_taken("values", "picks", &taken(name, longest), input);
+            }
+            self.folder.put(name, None);
+        }
+        self.restore(&[OsStr::new("limits")]);
+    }
+
+    /// Names as long as leaves room for their part files' names, which are written, and longer ones.
+    fn compare_long_names(&mut self) {
+        self.tally.case = "the longest names".into();
+        let long = |name: &str, length: usize| "./".repeat((length - name.len()) / 2) + name;
+        let (values, picks) = (long("new", LONGEST_PATH - 7), long("newer", LONGEST_PATH - 7));
+        let file = file_p().bytes();
+        let tables = planned(&file).tables.expect("P passes");
+        let said = self.plan.run(&self.folder, &[&values, &picks], &file);
+        self.tally.hold("the lines", &said, &Said::only(plan_lines(&file)));
+        self.tally.hold("values", &self.folder.get("new"), &Some(values_bytes(&tables.values)));
+        self.tally.hold("picks", &self.folder.get("newer"), &Some(picks_bytes(&tables.picks)));
+        self.restore(&["new", "newer"].map(OsStr::new));
+        for length in [LONGEST_PATH - 5, LONGEST_PATH - 1] {
+            let name = OsString::from(long("new", length));
+            let part = OsString::from(long("new", length) + ".part");
+            self.compare_unwritable(&name, OsStr::new("newer"), &part);
+            self.compare_unwritable(OsStr::new("newer"), &name, &part);
+        }
     }
 
     /// Tables of the same lengths are replaced, and a link to one is, but not what it leads to.
@@ -406,6 +441,8 @@ fn main() -> ExitCode {
     let mut room = Room::new();
     room.compare_all_unwritable();
     room.compare_all_taken();
+    room.compare_longest();
+    room.compare_long_names();
     room.compare_replaced();
     room.compare_parts();
     room.compare_refused();

@@ -77,9 +77,9 @@ const WAITS_TO_GO: &str =
 const GOES_ON: &str =
     "echo $$ >\"$ROOM/number.new\"; mv \"$ROOM/number.new\" \"$ROOM/number\"; exec sleep 60";
 /// The commands that the start scripts need, and the `rt` that is made here.
-const TOOLS: [&str; 16] = [
+const TOOLS: [&str; 17] = [
     "awk", "cat", "cksum", "cp", "find", "flock", "mkdir", "mv", "readlink", "rm", "sed", "setsid",
-    "sh", "sleep", "tail", "wc",
+    "sh", "sleep", "sort", "tail", "wc",
 ];
 
 /// A start script, and the program that it starts.
@@ -344,6 +344,10 @@ impl Room {
         std::fs::remove_file(made.folder.path("tools/flock")).expect("a tool");
         std::fs::remove_file(made.folder.path("tools/setsid")).expect("a tool");
         self.hold_start("neither flock nor setsid", &made, &[AGAIN, PROVED], 0, 2);
+        std::fs::remove_file(made.folder.path("tools/cksum")).expect("a tool");
+        for count in [3, 4] {
+            self.hold_start("no sums, so nothing is known", &made, &[AGAIN, PROVED], 0, count);
+        }
         for taken in ["target", "target/made"] {
             let made = Repository::new(self, 5);
             made.rt(BUILDS);

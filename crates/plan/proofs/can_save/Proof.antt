@@ -12,14 +12,8 @@ states-in-requires c κs = search needs
 returns : tie.Need-returns
 returns c = search needs
 
-slice-aggregate-part-of : tie.Need-slice-aggregate-part-of
-slice-aggregate-part-of c = search needs
-
 part-of-requires : tie.Need-part-of-requires
 part-of-requires c κs = search needs
-
-slice-aggregate-part-of-2 : tie.Need-slice-aggregate-part-of-2
-slice-aggregate-part-of-2 c = search needs
 
 part-of-requires-2 : tie.Need-part-of-requires-2
 part-of-requires-2 c κs = search needs
@@ -28,7 +22,7 @@ array-share-prefix-first : tie.Need-array-share-prefix-first
 array-share-prefix-first c = search needs
 
 slice-aggregate-are-ready : tie.Need-slice-aggregate-are-ready
-slice-aggregate-are-ready c = sym (length-take-le _ _ (c .before .before .before .before .before .part-of .ensures .within))
+slice-aggregate-are-ready c = sym (length-take-le _ _ (c .before .before .before .part-of .ensures .0 .within))
 
 mul-are-ready : tie.Need-mul-are-ready
 mul-are-ready c = search needs
@@ -37,7 +31,7 @@ array-share-prefix-second : tie.Need-array-share-prefix-second
 array-share-prefix-second c = search needs
 
 slice-aggregate-are-ready-2 : tie.Need-slice-aggregate-are-ready-2
-slice-aggregate-are-ready-2 c = sym (length-take-le _ _ (c .before .before .before .part-of2 .ensures .within))
+slice-aggregate-are-ready-2 c = sym (length-take-le _ _ (c .before .before .part-of2 .ensures .0 .within))
 
 mul-are-ready-2 : tie.Need-mul-are-ready-2
 mul-are-ready-2 c = search needs
@@ -54,9 +48,7 @@ can-save-spec =
     (tie.spec
     states-in-requires
     returns
-    slice-aggregate-part-of
     part-of-requires
-    slice-aggregate-part-of-2
     part-of-requires-2
     array-share-prefix-first
     slice-aggregate-are-ready

@@ -1,8 +1,10 @@
--- `part_of` puts the name and then `.part`.
+-- `part_of` puts the name and then `.part`, and there is room for both.
 -- Made by `places make` from answers/part_of.ans: edit that file, and not this one.
-use mathlib.Core.Path.{_∙_}
-use Rattle.printing.proofs.Putting.{more}
+use lib.ListN.{length-append}
+use Rattle.model.specs.Lines.{codes}
+use Rattle.printing.proofs.Putting.{more, uncut}
 use borrow.Author.Needs.{needs}
+use native.Mathlib.Omega.{arith}
 use Rattle.plan.proofs.part_of.Statement.{statement}
 use Rattle.plan.proofs.part_of.Tie as tie
 
@@ -13,15 +15,12 @@ slice-aggregate-put : tie.Need-slice-aggregate-put
 slice-aggregate-put c = search needs
 
 put-requires-2 : tie.Need-put-requires-2
-put-requires-2 c κs = c .before .before .before .before .put .ensures .within
-
-same-length : tie.Need-same-length
-same-length c = c .before .before .put2 .kept .0 ∙ (c .before .before .before .before .before .before .before .put .kept .0)
+put-requires-2 c κs = c .before .before .put .ensures .within
 
 returns : tie.Need-returns
-returns c = more _ (c .before .before .before .before .before .before .before .put .ensures) (c .before .before .put2 .ensures)
+returns c =
+    let put = more _ (c .before .before .before .put .ensures) (c .put2 .ensures) in
+    (put, uncut put (omega (arith, length-append (c .before .before .before .before .before .before .args .name .now) (codes ".part"), put .long, c .before .before .before .before .before .before .pre, c .before .before .before .put .ok)))
 
 pub part-of-spec : {M : Type 1} → statement M
-part-of-spec =
-    tie.close
-    (tie.spec put-requires slice-aggregate-put put-requires-2 same-length returns)
+part-of-spec = tie.close (tie.spec put-requires slice-aggregate-put put-requires-2 returns)
