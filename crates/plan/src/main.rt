@@ -20,6 +20,7 @@ use programs::checked::states_in;
 use programs::files::are_names;
 use programs::files::fail;
 use programs::files::read_whole;
+use programs::front;
 ghost use mathlib.Core.Path.{_≡_};
 ghost use Prim.Native.Nat.{ℕ, _≤_};
 ghost use mathlib.Core.List.{List, _++_};
@@ -56,22 +57,13 @@ enum There {
     Other,
 }
 
-// How many of these bytes were read: all, where `read` is no fewer.
-fn count_of(bytes: &[u8], read: usize) -> usize
-    ensures { λ r. ⌜ r ≡ length (take read (now (bytes .entry))) ⌝ }
-{
-    if read < bytes.len() {
-        return read;
-    }
-    bytes.len()
-}
-
 // A file of which `read` bytes are in `bytes`, as many as there is room for: that shows whether it is just as long as a table, since any
 // table has fewer.
 fn seen(bytes: &[u8; LOOK], read: usize) -> There
     ensures { λ r. ⌜ ((f : List ℕ) → ReadOf f (now (bytes .entry)) read → Shows f r) ⌝ }
 {
-    There::Bytes(count_of(bytes, read))
+    let got = front(bytes, read);
+    There::Bytes(got.len())
 }
 
 // Looks at a name, as far as tables go: a longer file has `LOOK` bytes. Where it is anything else, errno says why. A name of no bytes, which

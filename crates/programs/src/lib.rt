@@ -43,8 +43,8 @@ pub struct Planned {
     pub states: usize,
 }
 
-// The first n bytes, or all where there are no more.
-fn front(bytes: &[u8], n: usize) -> &[u8]
+// The first n bytes, or all where there are no more: what was read, where n were read.
+pub fn front(bytes: &[u8], n: usize) -> &[u8]
     ensures { λ r. ⌜ now r ≡ take n (now (bytes .entry)) ⌝ }
 {
     if n < bytes.len() {

@@ -126,11 +126,16 @@ impl Room {
         }
     }
 
-    /// `plan` on P with two names, whose tables are there afterwards and are taken away again.
+    /// `plan` on P with two names, whose tables are there afterwards.
     fn compare_written(&mut self, values: &OsStr, picks: &OsStr) {
+        self.compare_written_to([values, picks], [values, picks]);
+    }
+
+    /// The same with names that are others for two files.
+    fn compare_written_to(&mut self, names: [&OsStr; 2], [values, picks]: [&OsStr; 2]) {
         let file = file_p().bytes();
         let tables = planned(&file).tables.expect("P passes");
-        let said = self.plan.run(&self.folder, &[values, picks], &file);
+        let said = self.plan.run(&self.folder, &names, &file);
         self.tally.hold("the lines", &said, &Said::only(plan_lines(&file)));
         self.tally.hold("values", &self.folder.get(values), &Some(values_bytes(&tables.values)));
         self.tally.hold("picks", &self.folder.get(picks), &Some(picks_bytes(&tables.picks)));
@@ -201,14 +206,10 @@ impl Room {
     fn compare_long_names(&mut self) {
         self.tally.case = "the longest names".into();
         let long = |name: &str, length: usize| "./".repeat((length - name.len()) / 2) + name;
-        let (values, picks) = (long("new", LONGEST_PATH - 7), long("newer", LONGEST_PATH - 7));
-        let file = file_p().bytes();
-        let tables = planned(&file).tables.expect("P passes");
-        let said = self.plan.run(&self.folder, &[&values, &picks], &file);
-        self.tally.hold("the lines", &said, &Said::only(plan_lines(&file)));
-        self.tally.hold("values", &self.folder.get("new"), &Some(values_bytes(&tables.values)));
-        self.tally.hold("picks", &self.folder.get("newer"), &Some(picks_bytes(&tables.picks)));
-        self.restore(&["new", "newer"].map(OsStr::new));
+        let names = ["new", "newer"].map(OsStr::new);
+        let long_names = ["new", "newer"].map(|name| OsString::from(long(name, LONGEST_PATH - 7)));
+        self.compare_written_to([&long_names[0], &long_names[1]], names);
+        self.restore(&names);
         for length in [LONGEST_PATH - 5, LONGEST_PATH - 1] {
             let name = OsString::from(long("new", length));
             let part = OsString::from(long("new", length) + ".part");

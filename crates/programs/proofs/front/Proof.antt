@@ -14,7 +14,7 @@ returns : tie.Need-returns
 returns c = search needs
 
 returns-2 : tie.Need-returns-2
-returns-2 c = sym (take-all _ _ (c .if1 .left))
+returns-2 c = sym (take-all (c .before .args .n) (c .before .args .bytes .now) (omega (arith, c .if1 .left)))
 
 pub front-spec : {M : Type 1} → statement M
 front-spec = tie.close (tie.spec slice-aggregate-result returns returns-2)
