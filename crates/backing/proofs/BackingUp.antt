@@ -14,11 +14,11 @@ use Rattle.model.specs.Problem.{Problem, giveUpCost}
 use Rattle.model.specs.Sections.{problemOf}
 use Rattle.model.specs.Value.{byState}
 use Rattle.model.specs.Walk.{In, here, there}
-use Rattle.model.specs.Rounds.{Found, Machine, scan, raiseOn, settle, scanOf, backup, backups}
+use Rattle.model.specs.Rounds.{Found, Machine, scan, pickOf, raiseOn, settle, scanOf, backup, backups}
 use Rattle.guarantee.specs.Sound.{Sound, evaluation-fits, backup-sound}
 use Rattle.guarantee.specs.Backups.{Open}
 use Rattle.guarantee.specs.Evaluations.{backups-count}
-use Rattle.guarantee.specs.Choosing.{pickOf, threshold-giving-up}
+use Rattle.guarantee.specs.Choosing.{threshold-giving-up}
 use Rattle.backing.specs.Backable.{countBound, found, Going, machine, Scannable, Backable, Listed}
 
 -- in sound tables every row value fits

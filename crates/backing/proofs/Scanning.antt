@@ -13,11 +13,12 @@ use Rattle.model.specs.Limits.{maxRows}
 use Rattle.model.specs.Problem.{Problem, endRow}
 use Rattle.model.specs.Sections.{problemOf}
 use Rattle.model.specs.Value.{rowValue, byState}
-use Rattle.model.specs.Rounds.{Found, beats, evaluate, skipped, considerOn, consider, considerIf, scanFrom, scan}
-use Rattle.guarantee.specs.Evaluations.{from-count, scan-count}
+use Rattle.model.specs.Rounds.{Found, beats, evaluate, skipped, considerOn, consider, scan, pickOf}
+use Rattle.model.specs.Traversal.{takenIf, othersFrom, traverse}
+use Rattle.guarantee.specs.Evaluations.{others-count, scan-count}
 use Rattle.reading.specs.Ready.{Ready}
-use Rattle.guarantee.specs.Choosing.{pickOf, threshold-row, beats-below}
-use Rattle.backing.specs.Backable.{countBound, Going, Scannable}
+use Rattle.guarantee.specs.Choosing.{threshold-row, beats-below}
+use Rattle.backing.specs.Backable.{countBound, Going, Scannable, takenUnder, othersUnder}
 
 -- the code's test is the model's, and then the scan goes on from where it was, or from row r of value q
 module _ {best below pick : ℕ} {over : Bool} (h : Going best below pick over) where
@@ -49,17 +50,17 @@ module _ {f index values remembered : List ℕ} (h : Scannable f index values re
 
   -- the pick before, where it is between `first` and `end`
   module _ (first end prev : ℕ) (a : Found) where
-    pub pick-below : prev < first → a ≡ considerIf (leb first prev && ltb prev end) p v prev a
-    unfolding considerIf
+    pub pick-below : prev < first → a ≡ takenIf (consider p v) (leb first prev && ltb prev end) prev a
+    unfolding takenIf
     pick-below l = rw (lt-leb _ _ l) refl
 
-    pub pick-above : first ≤ prev → end ≤ prev → a ≡ considerIf (leb first prev && ltb prev end) p v prev a
-    unfolding considerIf
+    pub pick-above : first ≤ prev → end ≤ prev → a ≡ takenIf (consider p v) (leb first prev && ltb prev end) prev a
+    unfolding takenIf
     pick-above l m = rw (le-leb _ _ l, le-ltb _ _ m) refl
 
     pub pick-own
-        : {b : Found} → first ≤ prev → prev < end → b ≡ consider p v prev a → b ≡ considerIf (leb first prev && ltb prev end) p v prev a
-    unfolding considerIf
+        : {b : Found} → first ≤ prev → prev < end → b ≡ consider p v prev a → b ≡ takenIf (consider p v) (leb first prev && ltb prev end) prev a
+    unfolding takenIf
     pick-own l m e = rw (le-leb _ _ l, lt-ltb _ _ m) e
 
   -- a scan that has room in the end has room at first
@@ -91,18 +92,18 @@ state-rows {f} {index} {s} h l =
 -- the row picked before, and then the others, are the scan of the state
 module _ {f index values remembered : List ℕ} {s first end : ℕ} (h : Scannable f index values remembered)
     (rows : StateRows (problemOf f) s first end) (prev : ℕ) (a : Found) {b : Found}
-    (e : b ≡ considerIf (leb first prev && ltb prev end) (problemOf f) (byState values) prev a) where
+    (e : b ≡ takenUnder (leb first prev && ltb prev end) f values prev a) where
   pub own-rows
-      : {c : Found} → c ≡ scanFrom (problemOf f) (byState values) prev first (end - first) b
+      : {c : Found} → c ≡ othersUnder f values prev first (end - first) b
       → c ≡ scan (problemOf f) (byState values) s prev a
-  unfolding scan
+  unfolding traverse
   own-rows same =
       let k : end - first ≡ problemOf f .rowCount s = omega arith in
       rw (same, e, k, rows .low, rows .high) refl
 
   pub own-room
       : scan (problemOf f) (byState values) s prev a .count < countBound
-      → scanFrom (problemOf f) (byState values) prev first (end - first) b .count < countBound
+      → othersUnder f values prev first (end - first) b .count < countBound
   own-room l = rw (own-rows refl) l
 
 -- what evaluating rows stands on does not hang on what the rows remember
@@ -116,21 +117,21 @@ pub record ScanLeft (f index values : List ℕ) (prev end : ℕ) (w a : Found) (
   pub scannable : Scannable f index values (a .remembered)
   pub within : r ≤ end
   pub rows : end ≤ problemOf f .rows
-  pub left : scanFrom (problemOf f) (byState values) prev r (end - r) a ≡ w
+  pub left : othersUnder f values prev r (end - r) a ≡ w
   pub room : w .count < countBound
   pub going : Going (a .best) below (a .pick) over
 
 module _ {f index values : List ℕ} {prev end : ℕ} {w a : Found} {below : ℕ} {over : Bool} {r : ℕ}
     (h : ScanLeft f index values prev end w a below over r) where
-  next-row : (c : Found) → r < end → c ≡ considerIf (not (eqb r prev)) (problemOf f) (byState values) r a → scanFrom (problemOf f) (byState values) prev (r + 1) (end - (r + 1)) c ≡ w
-  unfolding scanFrom
+  next-row : (c : Found) → r < end → c ≡ takenUnder (not (eqb r prev)) f values r a → othersUnder f values prev (r + 1) (end - (r + 1)) c ≡ w
+  unfolding othersFrom
   next-row c l e =
       let k : end - r ≡ suc (end - (r + 1)) = omega arith in
       let s : r + 1 ≡ suc r = omega arith in
-      rw e (subst (λ x. scanFrom (problemOf f) (byState values) prev x (end - (r + 1)) (considerIf (not (eqb r prev)) (problemOf f) (byState values) r a) ≡ w) (sym s) (rw k at (h .left)))
+      rw e (subst (λ x. othersUnder f values prev x (end - (r + 1)) (takenUnder (not (eqb r prev)) f values r a) ≡ w) (sym s) (rw k at (h .left)))
 
   pub left-passed : r < end → r ≡ prev → ScanLeft f index values prev end w a below over (r + 1)
-  unfolding considerIf
+  unfolding takenIf
   left-passed l e =
       record {
         scannable = h .scannable;
@@ -145,7 +146,7 @@ module _ {f index values : List ℕ} {prev end : ℕ} {w a : Found} {below : ℕ
       : {b : Found} {below′ : ℕ} {over′ : Bool} → r < end → (r ≡ prev → ⊥) → b ≡ consider (problemOf f) (byState values) r a
       → Going (b .best) below′ (b .pick) over′ → length (b .remembered) ≡ length (a .remembered)
       → ScanLeft f index values prev end w b below′ over′ (r + 1)
-  unfolding considerIf
+  unfolding takenIf
   left-taken {b} l d e going same =
       record {
         scannable = still-scannable same (h .scannable);
@@ -158,8 +159,8 @@ module _ {f index values : List ℕ} {prev end : ℕ} {w a : Found} {below : ℕ
 
   -- what is counted so far is at most what is counted in the end
   pub left-room : a .count < countBound
-  left-room = omega (arith, h .room, from-count (problemOf f) (byState values) prev r (end - r) a, ap (λ c. c .count) (h .left))
+  left-room = omega (arith, h .room, others-count (problemOf f) (byState values) prev r (end - r) a, ap (λ c. c .count) (h .left))
 
   pub left-done : end ≤ r → a ≡ w
-  unfolding scanFrom
+  unfolding othersFrom
   left-done l = let k : end - r ≡ 0 = omega arith in rw k at (h .left)

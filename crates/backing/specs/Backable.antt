@@ -9,16 +9,17 @@ use Rattle.model.specs.Limits.{valueBound}
 use Rattle.model.specs.Sections.{problemOf}
 use Rattle.model.specs.Value.{rowValue, byState}
 use Rattle.model.specs.Walk.{In}
-use Rattle.model.specs.Rounds.{Found, Machine, consider, considerIf, scanFrom, scan}
+use Rattle.model.specs.Traversal.{takenIf, othersFrom}
+use Rattle.model.specs.Rounds.{Found, Machine, consider, scan, pickOf}
 use Rattle.guarantee.specs.WellFormed.{WellFormed}
-use Rattle.guarantee.specs.Choosing.{pickOf, threshold}
+use Rattle.guarantee.specs.Choosing.{threshold}
 use Rattle.guarantee.specs.Sound.{SoundTables}
 use Rattle.guarantee.specs.Backups.{Open}
 use Rattle.reading.specs.Ready.{Ready}
 
--- a count of evaluations below this has room for one more in 64 bits
+-- a count of evaluations below this has room for one more in 64 bits: it is their largest number
 abbrev pub countBound : ℕ
-countBound = 9223372036854775808
+countBound = 18446744073709551615
 
 -- a scan so far, with what each row remembers beside it
 abbrev pub found : ℕ → ℕ → ℕ → List ℕ → Found
@@ -49,11 +50,11 @@ valueUnder f values r = rowValue (problemOf f) (byState values) r
 abbrev pub considerUnder : List ℕ → List ℕ → ℕ → Found → Found
 considerUnder f values r a = consider (problemOf f) (byState values) r a
 
-abbrev pub considerIfUnder : Bool → List ℕ → List ℕ → ℕ → Found → Found
-considerIfUnder b f values r a = considerIf b (problemOf f) (byState values) r a
+abbrev pub takenUnder : Bool → List ℕ → List ℕ → ℕ → Found → Found
+takenUnder b f values r a = takenIf (considerUnder f values) b r a
 
-abbrev pub scanFromUnder : List ℕ → List ℕ → ℕ → ℕ → ℕ → Found → Found
-scanFromUnder f values prev r k a = scanFrom (problemOf f) (byState values) prev r k a
+abbrev pub othersUnder : List ℕ → List ℕ → ℕ → ℕ → ℕ → Found → Found
+othersUnder f values prev r k a = othersFrom (considerUnder f values) prev r k a
 
 abbrev pub scanUnder : List ℕ → List ℕ → ℕ → ℕ → Found → Found
 scanUnder f values s prev a = scan (problemOf f) (byState values) s prev a

@@ -14,7 +14,7 @@ ghost use Rattle.model.specs.Limits.{maxRows};
 ghost use Rattle.model.specs.Sections.{problemOf};
 ghost use Rattle.model.specs.Rounds.{evaluate};
 ghost use Rattle.backing.specs.Backable.{countBound, found, Going, Scannable};
-ghost use Rattle.backing.specs.Backable.{considerUnder, considerIfUnder, scanFromUnder, scanUnder};
+ghost use Rattle.backing.specs.Backable.{considerUnder, takenUnder, othersUnder, scanUnder};
 ghost use Rattle.backing.specs.Log.{noted, undone};
 
 // A scan so far: what is best, what a value must be below to beat it, the pick, and the evaluations counted. Once a row is best
@@ -134,7 +134,7 @@ fn picked(
         × (end ≤ problemOf (now file) .rows) × (a .count < countBound) × Going (a .best) (a .below) (a .pick) (a .over) ⌝ }
     ensures { λ b.
         ⌜ (found (b .best) (b .pick) (b .count) (now (remembered .exit))
-        ≡ considerIfUnder
+        ≡ takenUnder
         (leb first prev && ltb prev end) (now (file .entry)) (now (values .entry)) prev
         (found (a .best) (a .pick) (a .count) (now (remembered .entry))))
         × Going (b .best) (b .below) (b .pick) (b .over) ⌝ }
@@ -162,13 +162,13 @@ fn others(
 ) -> Found
     requires { ⌜ Scannable (now file) (now index) (now values) (now remembered)
         × (first ≤ end) × (end ≤ problemOf (now file) .rows)
-        × (scanFromUnder
+        × (othersUnder
         (now file) (now values) prev first (end - first)
         (found (a .best) (a .pick) (a .count) (now remembered)) .count < countBound)
         × Going (a .best) (a .below) (a .pick) (a .over) ⌝ }
     ensures { λ b.
         ⌜ (found (b .best) (b .pick) (b .count) (now (remembered .exit))
-        ≡ scanFromUnder
+        ≡ othersUnder
         (now (file .entry)) (now (values .entry)) prev first (end - first)
         (found (a .best) (a .pick) (a .count) (now (remembered .entry))))
         × Going (b .best) (b .below) (b .pick) (b .over) ⌝ }

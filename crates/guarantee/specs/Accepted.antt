@@ -27,16 +27,19 @@ use Rattle.guarantee.specs.Undercuts.{NoUndercut, undercut-none, none-un
 abbrev pub Marked : Problem → (ℕ → ℕ) → ℕ → Type 0
 Marked p picks s = eqb (getD (walk p picks .marks) s 0) 0 ≡ false
 
--- questions 16 to 19 say yes, and C is the least cost
-pub record Accepts (p : Problem) (v picks : ℕ → ℕ) (C : ℕ) : Type 0 where
+-- questions 16 to 19 say yes under tolerance e, and C is the least cost
+pub record AcceptsWithin (p : Problem) (e : ℕ) (v picks : ℕ → ℕ) (C : ℕ) : Type 0 where
   pub goal-zero : (s : ℕ) → s < p .states → p .goal s ≡ true → v s ≡ 0
   pub value-high : (s : ℕ) → s < p .states → p .goal s ≡ false → v s ≤ giveUpCost p
   pub no-undercut : NoUndercut p v
   pub pick-fits
       : (s : ℕ) → s < p .states → p .goal s ≡ false → Marked p picks s → (picks s ≡ giveUp) ⊎ (ownRow p s (picks s) ≡ true)
-  pub pick-close
-      : (s : ℕ) → s < p .states → p .goal s ≡ false → Marked p picks s → pickValue p v picks s ≤ v s + p .tolerance - 1
+  pub pick-close : (s : ℕ) → s < p .states → p .goal s ≡ false → Marked p picks s → pickValue p v picks s ≤ v s + e - 1
   pub least : C ≡ leastCost p picks
+
+-- under the file's own
+abbrev pub Accepts : Problem → (ℕ → ℕ) → (ℕ → ℕ) → ℕ → Type 0
+Accepts p v picks C = AcceptsWithin p (p .tolerance) v picks C
 
 -- goals included, V is at most 1000 × D
 pub accepted-high

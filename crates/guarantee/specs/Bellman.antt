@@ -7,10 +7,10 @@ use native.Mathlib.Omega.{arith}
 use mathlib.Core.Logic.{_⊎_, inl, inr}
 use Rattle.model.specs.Problem.{Problem, giveUpCost, endRow}
 use Rattle.model.specs.Value.{rowValue}
-use Rattle.model.specs.Rounds.{leastValue, bellman}
+use Rattle.model.specs.Rounds.{Chosen, choice, leastValue, bellman}
 use Rattle.guarantee.specs.WellFormed.{WellFormed}
 use Rattle.guarantee.specs.Rows.{own-low, own-high}
-use Rattle.guarantee.specs.Choosing.{Chosen, choice, Landed, at-giving-up, at-row, choice-high, choice-under, choice-landed}
+use Rattle.guarantee.specs.Choosing.{Landed, at-giving-up, at-row, choice-high, choice-under, choice-landed}
 
 module _ (p : Problem) (v : ℕ → ℕ) where
   pub leastValue-high : (k r : ℕ) → leastValue p v r k ≤ giveUpCost p

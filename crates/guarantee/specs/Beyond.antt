@@ -3,21 +3,20 @@
 use mathlib.Core.Path.{_≡_, refl, _∙_, ap}
 use Prim.Native.Nat.{ℕ, zero, suc, _+_, _-_, _≤_, _<_}
 use native.Mathlib.Omega.{arith}
-use mathlib.Core.Bool.{Bool, true, false, not}
+use mathlib.Core.Bool.{Bool, true, false}
 use mathlib.Core.List.{List, _++_}
-use lib.Dec.{eqb}
 use lib.ListN.{getD, length, drop, replicate, length-replicate}
 use lib.Seq.{drop-set-lt, drop-append-add, drop-at}
 use Rattle.model.specs.Limits.{listEnd}
-use Rattle.model.specs.Problem.{Problem, ownRow}
+use Rattle.model.specs.Problem.{Problem}
 use Rattle.model.specs.Value.{rowValue, byState}
 use Rattle.model.specs.Sections.{problemOf}
-use Rattle.model.specs.Rounds.{Found, Machine, Ending, beats, evaluateOn, skipped, considerOn, consider, considerIf}
-use Rattle.model.specs.Rounds.{scanFrom, scan, scanStart, scanOf}
+use Rattle.model.specs.Rounds.{Found, Machine, Ending, beats, evaluateOn, skipped, considerOn, consider, scanStart, scanOf}
 use Rattle.model.specs.Rounds.{raiseOn, rises, settle, backup, walked, fillTo, machineStart, runOf, listTable}
 use Rattle.model.specs.Solution.{fine, Tables, tablesOf, solutionOf, solution}
 use Rattle.guarantee.specs.WellFormed.{WellFormed, well-formed}
-use Rattle.guarantee.specs.Walks.{rows-within, own-row, listed-number}
+use Rattle.guarantee.specs.Walks.{own-row, listed-number}
+use Rattle.guarantee.specs.Traversals.{traverse-keeps}
 use Rattle.guarantee.specs.Backups.{Open, machineOf, round-keeps, run-keeps}
 use Rattle.guarantee.specs.Solutions.{runWith, Told, turned-down, ran, told}
 
@@ -71,26 +70,13 @@ module _ (p : Problem) (v : ℕ → ℕ) (n : ℕ) where
       go true = refl
       go false = evaluate-drop (beats (rowValue p v r) (a .best) (a .pick)) (rowValue p v r) r a h
 
-  if-drop : (b : Bool) (r : ℕ) (a : Found) → (b ≡ true → r < n) → drop n (considerIf b p v r a .remembered) ≡ drop n (a .remembered)
-  unfolding considerIf
-  if-drop true r a h = consider-drop r a (h refl)
-  if-drop false r a h = refl
-
-  from-drop : (prev r k : ℕ) (a : Found) → r + k ≤ n → drop n (scanFrom p v prev r k a .remembered) ≡ drop n (a .remembered)
-  unfolding scanFrom
-  from-drop prev r zero a h = refl
-  from-drop prev r (suc k) a h =
-      let b = considerIf (not (eqb r prev)) p v r a in
-      from-drop prev (suc r) k b (omega arith) ∙ if-drop (not (eqb r prev)) r a (λ e. omega arith)
-
 module _ (p : Problem) (formed : WellFormed p) (t : Tables) where
   scan-drop : (s : ℕ) (m : Machine) → s < p .states → drop (p .rows) (scanOf p s m .remembered) ≡ drop (p .rows) (m .remembered)
-  unfolding scan
   scan-drop s m l =
       let v = byState (m .values) in
-      let prev = getD (m .picks) s 0 in
-      from-drop p v (p .rows) prev (p .firstRow s) (p .rowCount s) _ (rows-within p formed s l)
-      ∙ if-drop p v (p .rows) (ownRow p s prev) prev (scanStart p m) (own-row p formed s prev l)
+      traverse-keeps p s (getD (m .picks) s 0) (consider p v) (scanStart p m)
+      (λ (a : Found). drop (p .rows) (a .remembered) ≡ drop (p .rows) (m .remembered))
+      (λ i a own e. consider-drop p v (p .rows) i a (own-row p formed s i l own) ∙ e) refl
 
   backup-keeps : (e s : ℕ) (m : Machine) → Open p s → Keeps p t m → Keeps p t (backup p e s m)
   unfolding backup settle

@@ -1,23 +1,22 @@
 -- Question 14 is never answered no: in a sound machine the checked scan, backup, round and run are those of Rounds.antt.
--- Every row value fits while the machine is sound, and every backup keeps it sound; by induction on rows, list and budget.
+-- Every row value fits while the machine is sound, and every backup keeps it sound; by induction on list and budget.
 use mathlib.Core.Path.{_≡_, refl}
 use Prim.Native.Nat.{ℕ, zero, suc, _+_, _≤_, _<_}
 use native.Mathlib.Omega.{arith}
-use mathlib.Core.Bool.{Bool, true, false, not}
+use mathlib.Core.Bool.{Bool, true, false}
 use mathlib.Core.List.{List, [], _∷_}
-use lib.Dec.{eqb}
 use lib.ListN.{getD}
 use borrow.Author.Tests.{lt-ltb}
-use Rattle.model.specs.Problem.{Problem, ownRow}
+use Rattle.model.specs.Problem.{Problem}
 use Rattle.model.specs.Value.{byState}
 use Rattle.model.specs.Walk.{In, here, there, walk}
-use Rattle.model.specs.Rounds.{Found, Machine, skipped, considerOn, consider, considerIf, scanFrom, scan, scanStart, scanOf}
+use Rattle.model.specs.Rounds.{Found, Machine, skipped, considerOn, consider, scanStart, scanOf}
 use Rattle.model.specs.Rounds.{backup, backups, walked, round, runFrom}
-use Rattle.model.specs.Solution.{fine, checkedEvaluate, checkedConsiderOn, checkedConsider, checkedConsiderIf, checkedScanFrom}
+use Rattle.model.specs.Solution.{fine, checkedEvaluate, checkedConsiderOn, checkedConsider}
 use Rattle.model.specs.Solution.{checkedScan, checkedBackup, checkedBackups, checkedRound, checkedRunFrom}
 use Rattle.guarantee.specs.WellFormed.{WellFormed}
-use Rattle.guarantee.specs.Walks.{rows-within}
-use Rattle.guarantee.specs.Rows.{own-high, row-of-file}
+use Rattle.guarantee.specs.Walks.{own-row}
+use Rattle.guarantee.specs.Traversals.{both-keep}
 use Rattle.guarantee.specs.Sound.{Sound, evaluation-fits, backup-sound}
 use Rattle.guarantee.specs.Backups.{Open, walk-opens, walked-sound, round-sound}
 
@@ -32,27 +31,11 @@ module _ (p : Problem) (formed : WellFormed p) where
         go true = refl
         go false = rw (lt-ltb _ _ (evaluation-fits p formed m sound r l)) refl
 
-    pub checked-if
-        : (b : Bool) (r : ℕ) (a : Found) → (b ≡ true → r < p .rows)
-        → checkedConsiderIf b p r m a ≡ fine (considerIf b p (byState (m .values)) r a)
-    unfolding checkedConsiderIf considerIf
-    checked-if true r a l = checked-consider r a (l refl)
-    checked-if false r a l = refl
-
-    pub checked-from
-        : (prev r k : ℕ) (a : Found) → r + k ≤ p .rows → checkedScanFrom p m prev r k a ≡ fine (scanFrom p (byState (m .values)) prev r k a)
-    unfolding checkedScanFrom scanFrom
-    checked-from prev r zero a h = refl
-    checked-from prev r (suc k) a h =
-        rw (checked-if (not (eqb r prev)) r a (λ e. omega arith))
-        (checked-from prev (suc r) k (considerIf (not (eqb r prev)) p (byState (m .values)) r a) (omega arith))
-
     pub checked-scan : (s : ℕ) → s < p .states → checkedScan p m s (getD (m .picks) s 0) ≡ fine (scanOf p s m)
-    unfolding checkedScan scan
+    unfolding checkedScan
     checked-scan s l =
-        let prev = getD (m .picks) s 0 in
-        rw (checked-if (ownRow p s prev) prev (scanStart p m) (λ o. row-of-file p formed s prev l (own-high p s prev o)))
-        (checked-from prev (p .firstRow s) (p .rowCount s) _ (rows-within p formed s l))
+        both-keep p s (getD (m .picks) s 0) _ (consider p (byState (m .values))) (λ x a. x ≡ fine a) (fine (scanStart p m)) (scanStart p m)
+        (λ i x a own e. rw e (checked-consider i a (own-row p formed s i l own))) refl
 
     pub checked-backup : (e s : ℕ) → s < p .states → checkedBackup p e s m ≡ fine (backup p e s m)
     unfolding checkedBackup backup

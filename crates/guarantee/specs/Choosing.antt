@@ -1,6 +1,5 @@
--- The choice of one backup with no memory and no skipping: the row picked before first, then the others in row order.
--- It depends on the row values alone, and after its own pick it is the same choice again: no row beats where it ends. The rule for
--- ties stands in `beats-below` and the three laws of `threshold` only.
+-- The choice of one backup depends on the row values alone, and after its own pick it is the same choice again: no row beats where it
+-- ends. The rule for ties stands in `beats-below` and the three laws of `threshold` only.
 use mathlib.Core.Path.{_≡_, refl, sym, _∙_, ap}
 use Prim.Native.Nat.{ℕ, zero, suc, _+_, _≤_, _<_}
 use native.Mathlib.Decide.{ℕ-discrete}
@@ -13,17 +12,12 @@ use borrow.Author.Tests.{ltb-true, ltb-false, lt-ltb, le-ltb, eqb-true, eq-eqb, 
 use Rattle.model.specs.Limits.{giveUp}
 use Rattle.model.specs.Problem.{Problem, giveUpCost, endRow, ownRow}
 use Rattle.model.specs.Value.{rowValue}
-use Rattle.model.specs.Rounds.{beats}
+use Rattle.model.specs.Traversal.{traverse}
+use Rattle.model.specs.Rounds.{beats, Chosen, pickOf, chooseOn, choose, givingUp, choice}
 use Rattle.guarantee.specs.WellFormed.{WellFormed}
 use Rattle.guarantee.specs.Walks.{rows-within}
+use Rattle.guarantee.specs.Traversals.{traverse-along, traverse-keeps, traverse-every, traverse-idle}
 use Rattle.guarantee.specs.Rows.{own-low, own-high, own-within, row-no-mark, giveUp-not-own}
-
-pub record Chosen : Type 0 where
-  pub best : ℕ
-  pub pick : ℕ
-
-abbrev pub pickOf : ℕ → ℕ → Chosen
-pickOf best pick = record { best = best; pick = pick }
 
 -- what is below this beats what is best so far: best, and one more while giving up is best
 abbrev thresholdOn : Bool → ℕ → ℕ
@@ -63,31 +57,6 @@ module _ (c : Chosen) where
       go false true e d = sym e
       go false false e d = sym e
 
-abbrev pub chooseOn : Bool → ℕ → ℕ → Chosen → Chosen
-chooseOn true x r c = pickOf x r
-chooseOn false x r c = c
-
--- row r, of value q r, is picked if it beats what is best so far
-unfoldable pub choose : (ℕ → ℕ) → ℕ → Chosen → Chosen
-choose q r c = chooseOn (beats (q r) (c .best) (c .pick)) (q r) r c
-
-unfoldable pub chooseIf : Bool → (ℕ → ℕ) → ℕ → Chosen → Chosen
-chooseIf true q r c = choose q r c
-chooseIf false q r c = c
-
--- k rows from r on, but for the pick before
-unfoldable pub chooseFrom : (ℕ → ℕ) → ℕ → ℕ → ℕ → Chosen → Chosen
-chooseFrom q prev r zero c = c
-chooseFrom q prev r (suc k) c = chooseFrom q prev (suc r) k (chooseIf (not (eqb r prev)) q r c)
-
-abbrev pub givingUp : Problem → Chosen
-givingUp p = pickOf (giveUpCost p) giveUp
-
--- best and pick of a backup at s under the table v after the pick `prev`
-unfoldable pub choice : Problem → (ℕ → ℕ) → ℕ → ℕ → Chosen
-choice p v s prev =
-    chooseFrom (rowValue p v) prev (p .firstRow s) (p .rowCount s) (chooseIf (ownRow p s prev) (rowValue p v) prev (givingUp p))
-
 -- where a choice ends: giving up at 1000 × D, or an own row that costs no more, at its value
 pub data Landed (p : Problem) (v : ℕ → ℕ) (s : ℕ) (c : Chosen) : Type 0 where
   at-giving-up : c .pick ≡ giveUp → c .best ≡ giveUpCost p → Landed p v s c
@@ -125,137 +94,18 @@ module _ (q : ℕ → ℕ) (r : ℕ) (c : Chosen) where
   pub choose-idle : threshold c ≤ q r → choose q r c ≡ c
   choose-idle h = choose-keeps (λ d. d ≡ c) (λ l. refl) (λ l. absurd (omega arith))
 
--- a run of rows
-module _ (q : ℕ → ℕ) (prev : ℕ) where
-  pub from-falls : (k r : ℕ) (c : Chosen) → r + k ≤ giveUp → threshold (chooseFrom q prev r k c) ≤ threshold c
-  unfolding chooseFrom chooseIf
-  from-falls zero r c few = omega arith
-  from-falls (suc k) r c few = go (not (eqb r prev)) (λ d. from-falls k (suc r) d (omega arith))
-    where
-      go
-          : (b : Bool) → ((d : Chosen) → threshold (chooseFrom q prev (suc r) k d) ≤ threshold d)
-          → threshold (chooseFrom q prev (suc r) k (chooseIf b q r c)) ≤ threshold c
-      go true ih = omega (arith, ih (choose q r c), choose-falls q r c (omega arith))
-      go false ih = ih c
-
-  pub from-under
-      : (k r : ℕ) (c : Chosen) → r + k ≤ giveUp → (r ≤ prev → prev < r + k → threshold c ≤ q prev) → (i : ℕ) → r ≤ i → i < r + k
-      → threshold (chooseFrom q prev r k c) ≤ q i
-  unfolding chooseFrom chooseIf
-  from-under zero r c few h i low high = absurd (omega arith)
-  from-under (suc k) r c few h i low high =
-      go (eqb r prev) refl (eq-or-lt-of-le low) (λ d. from-under k (suc r) d (omega arith))
-    where
-      go
-          : (b : Bool) → eqb r prev ≡ b → (r ≡ i) ⊎ (r < i)
-          → ((d : Chosen) → (suc r ≤ prev → prev < suc r + k → threshold d ≤ q prev) → (j : ℕ) → suc r ≤ j → j < suc r + k
-          → threshold (chooseFrom q prev (suc r) k d) ≤ q j)
-          → threshold (chooseFrom q prev (suc r) k (chooseIf (not b) q r c)) ≤ q i
-      go true e (inl at) ih =
-          let here : r ≡ prev = eqb-true r prev e in
-          omega (arith, ap q (sym at ∙ here), from-falls k (suc r) c (omega arith), h (omega arith) (omega arith))
-      go true e (inr l) ih = ih c (λ a b. absurd (omega (arith, eqb-true r prev e))) i l (omega arith)
-      go false e (inl at) ih =
-          rw (← at) (omega (arith, from-falls k (suc r) (choose q r c) (omega arith), choose-under q r c (omega arith)))
-      go false e (inr l) ih =
-          ih (choose q r c) (λ a b. omega (arith, choose-falls q r c (omega arith), h (omega arith) (omega arith))) i l
-          (omega arith)
-
-  pub from-keeps
-      : (P : Chosen → Type 0) (k r : ℕ) (c : Chosen)
-      → ((i : ℕ) (d : Chosen) → r ≤ i → i < r + k → q i < threshold d → P d → P (pickOf (q i) i))
-      → P c → P (chooseFrom q prev r k c)
-  unfolding chooseFrom chooseIf
-  from-keeps P zero r c h old = old
-  from-keeps P (suc k) r c h old =
-      go (not (eqb r prev)) (λ d. from-keeps P k (suc r) d (λ i a low high. h i a (omega arith) (omega arith)))
-    where
-      go : (b : Bool) → ((d : Chosen) → P d → P (chooseFrom q prev (suc r) k d)) → P (chooseFrom q prev (suc r) k (chooseIf b q r c))
-      go true ih = ih (choose q r c) (choose-keeps q r c P (λ l. old) (λ l. h r c (omega arith) (omega arith) l old))
-      go false ih = ih c old
-
-  pub from-idle : (k r : ℕ) (c : Chosen) → ((i : ℕ) → r ≤ i → i < r + k → threshold c ≤ q i) → chooseFrom q prev r k c ≡ c
-  unfolding chooseFrom chooseIf
-  from-idle zero r c h = refl
-  from-idle (suc k) r c h = go (not (eqb r prev)) (from-idle k (suc r) c (λ i low high. h i (omega arith) (omega arith)))
-    where
-      go : (b : Bool) → chooseFrom q prev (suc r) k c ≡ c → chooseFrom q prev (suc r) k (chooseIf b q r c) ≡ c
-      go true ih = rw (choose-idle q r c (h r (omega arith) (omega arith))) ih
-      go false ih = ih
-
-  -- either nothing was picked, or what was picked beats what was best before
-  from-moved : (k r : ℕ) (c : Chosen) → (chooseFrom q prev r k c ≡ c) ⊎ (chooseFrom q prev r k c .best < threshold c)
-  from-moved k r c =
-      from-keeps (λ d. (d ≡ c) ⊎ (d .best < threshold c)) k r c (λ i d low high less old. inr (go i d less old)) (inl refl)
-    where
-      go : (i : ℕ) (d : Chosen) → q i < threshold d → (d ≡ c) ⊎ (d .best < threshold c) → q i < threshold c
-      go i d less (inl same) = rw same at less
-      go i d less (inr lower) = omega (arith, threshold-near d .1)
-
-  -- what is picked when the run has come to row r
-  data Placed (r : ℕ) (c : Chosen) : Type 0 where
-    at-mark : c .pick ≡ giveUp → Placed r c
-    at-prev : c .pick ≡ prev → Placed r c
-    at-earlier : c .pick < r → Placed r c
-
-  placed-later : (r : ℕ) (c : Chosen) → Placed r c → Placed (suc r) c
-  placed-later r c (at-mark e) = at-mark e
-  placed-later r c (at-prev e) = at-prev e
-  placed-later r c (at-earlier l) = at-earlier (omega arith)
-
-  -- where another row than before is picked, row i before it costs more than best
-  abbrev First : ℕ → Chosen → Type 0
-  First i d = (d .pick ≡ prev → ⊥) → i < d .pick → d .best < q i
-
-  placed-first : (r : ℕ) (c : Chosen) → threshold c ≤ q r → Placed (suc r) c → First r c
-  placed-first r c under (at-mark e) other before = omega (arith, threshold-giving-up c e)
-  placed-first r c under (at-prev e) other before = absurd (other e)
-  placed-first r c under (at-earlier l) other before = absurd (omega arith)
-
-  moved-first : (r : ℕ) (c d : Chosen) → threshold c ≤ q r → Placed (suc r) c → (d ≡ c) ⊎ (d .best < threshold c) → First r d
-  moved-first r c d under at (inl same) = rw same (placed-first r c under at)
-  moved-first r c d under at (inr lower) = λ other before. omega arith
-
-  from-first
-      : (k r : ℕ) (c : Chosen) → r + k ≤ giveUp → Placed r c → (i : ℕ) → r ≤ i → i < r + k → (i ≡ prev → ⊥)
-      → First i (chooseFrom q prev r k c)
-  unfolding chooseFrom chooseIf
-  from-first zero r c few at i low high ne = absurd (omega arith)
-  from-first (suc k) r c few at i low high ne =
-      go (eqb r prev) refl (eq-or-lt-of-le low) (λ d at′ l. from-first k (suc r) d (omega arith) at′ i l (omega arith) ne)
-    where
-      placed : Placed (suc r) (choose q r c)
-      placed = choose-keeps q r c (Placed (suc r)) (λ l. placed-later r c at) (λ l. at-earlier (omega arith))
-
-      go
-          : (b : Bool) → eqb r prev ≡ b → (r ≡ i) ⊎ (r < i)
-          → ((d : Chosen) → Placed (suc r) d → suc r ≤ i → First i (chooseFrom q prev (suc r) k d))
-          → First i (chooseFrom q prev (suc r) k (chooseIf (not b) q r c))
-      go true e (inl same) ih = absurd (ne (sym same ∙ eqb-true r prev e))
-      go true e (inr l) ih = ih c (placed-later r c at) l
-      go false e (inl same) ih =
-          rw (← same)
-          (moved-first r (choose q r c) _ (choose-under q r c (omega arith)) placed (from-moved k (suc r) (choose q r c)))
-      go false e (inr l) ih = ih (choose q r c) placed l
-
 -- one backup: where it lands
 module _ (p : Problem) (v : ℕ → ℕ) (s prev : ℕ) where
   pub choice-landed : Landed p v s (choice p v s prev)
-  unfolding choice chooseIf
+  unfolding choice
   choice-landed =
-      from-keeps (rowValue p v) prev (Landed p v s) (p .rowCount s) (p .firstRow s) _
-      (λ i c low high less old. land i c (own-within p s i low high) less old) (go (ownRow p s prev) refl)
+      traverse-keeps p s prev (choose (rowValue p v)) (givingUp p) (Landed p v s)
+      (λ i c own old. choose-keeps (rowValue p v) i c (Landed p v s) (λ l. old) (λ l. land i c own l old)) (at-giving-up refl refl)
     where
       land : (i : ℕ) (c : Chosen) → ownRow p s i ≡ true → rowValue p v i < threshold c → Landed p v s c
           → Landed p v s (pickOf (rowValue p v i) i)
       land i c own less (at-giving-up e b) = at-row own refl (omega (arith, threshold-near c .1))
       land i c own less (at-row o e b) = at-row own refl (omega (arith, threshold-near c .1))
-
-      go : (b : Bool) → ownRow p s prev ≡ b → Landed p v s (chooseIf b (rowValue p v) prev (givingUp p))
-      go true e =
-          choose-keeps (rowValue p v) prev (givingUp p) (Landed p v s) (λ l. at-giving-up refl refl)
-          (λ l. at-row e refl (omega (arith, threshold-near (givingUp p) .1)))
-      go false e = at-giving-up refl refl
 
   pub choice-high : choice p v s prev .best ≤ giveUpCost p
   choice-high = go (choice p v s prev) choice-landed
@@ -267,24 +117,72 @@ module _ (p : Problem) (v : ℕ → ℕ) (s prev : ℕ) where
 pub same-chosen : {c d : Chosen} → c .best ≡ d .best → c .pick ≡ d .pick → c ≡ d
 same-chosen b e = λ i. record { best = b i; pick = e i }
 
+-- when a choice has come to row j: what is picked, and that where another row than before is picked, row i before it costs more than best
+data Placed (prev j : ℕ) (c : Chosen) : Type 0 where
+  at-mark : c .pick ≡ giveUp → Placed prev j c
+  at-prev : c .pick ≡ prev → Placed prev j c
+  at-earlier : c .pick < j → Placed prev j c
+
+record Order (q : ℕ → ℕ) (prev first j : ℕ) (c : Chosen) : Type 0 where
+  placed : Placed prev j c
+  unbeaten : (i : ℕ) → first ≤ i → i < j → (i ≡ prev → ⊥) → threshold c ≤ q i
+  wins : (i : ℕ) → first ≤ i → i < j → (i ≡ prev → ⊥) → (c .pick ≡ prev → ⊥) → i < c .pick → c .best < q i
+
+module _ (q : ℕ → ℕ) (prev first : ℕ) where
+  placed-later : (j : ℕ) (c : Chosen) → Placed prev j c → Placed prev (suc j) c
+  placed-later j c (at-mark e) = at-mark e
+  placed-later j c (at-prev e) = at-prev e
+  placed-later j c (at-earlier l) = at-earlier (omega arith)
+
+  placed-wins : (j : ℕ) (c : Chosen) → Placed prev j c → threshold c ≤ q j → (c .pick ≡ prev → ⊥) → j < c .pick → c .best < q j
+  placed-wins j c (at-mark e) under other before = omega (arith, threshold-giving-up c e)
+  placed-wins j c (at-prev e) under other before = absurd (other e)
+  placed-wins j c (at-earlier l) under other before = absurd (omega arith)
+
+  order-begins : (c : Chosen) → Placed prev first c → Order q prev first first c
+  order-begins c at =
+      record { placed = at; unbeaten = λ i low high. absurd (omega arith); wins = λ i low high. absurd (omega arith) }
+
+  -- a row that is not picked, or passed over
+  order-on : (j : ℕ) (c : Chosen) → ((j ≡ prev → ⊥) → threshold c ≤ q j) → Order q prev first j c → Order q prev first (suc j) c
+  order-on j c under h =
+      record {
+        placed = placed-later j c (h .placed);
+        unbeaten = λ i low high ne. at i high (λ k. threshold c ≤ q k) (λ e. under (λ o. ne (e ∙ o))) (λ l. h .unbeaten i low l ne);
+        wins =
+            λ i low high ne other before.
+            at i high (λ k. c .best < q k) (λ e. placed-wins j c (h .placed) (under (λ o. ne (e ∙ o))) other (omega (arith, e)))
+            (λ l. h .wins i low l ne other before);
+      }
+    where
+      at : (i : ℕ) → i < suc j → (P : ℕ → Type 0) → (i ≡ j → P j) → (i < j → P i) → P i
+      at i high P here there =
+          ⊎-elim (λ e. let same : i ≡ j = omega (arith, e) in rw same (here same)) (λ l. there (omega arith)) (eq-or-lt-of-le high)
+
+  order-picked : (j : ℕ) (c : Chosen) → j < giveUp → q j < threshold c → Order q prev first j c → Order q prev first (suc j) (pickOf (q j) j)
+  order-picked j c few less h =
+      record {
+        placed = at-earlier (omega arith);
+        unbeaten = λ i low high ne. omega (arith, threshold-row (pickOf (q j) j) few, at i low high ne);
+        wins = λ i low high ne other before. omega (arith, h .unbeaten i low before ne);
+      }
+    where
+      at : (i : ℕ) → first ≤ i → i < suc j → (i ≡ prev → ⊥) → q j ≤ q i
+      at i low high ne =
+          ⊎-elim (λ (e : suc i ≡ suc j). let same : i ≡ j = omega arith in rw same (omega arith))
+          (λ l. omega (arith, h .unbeaten i low (omega arith) ne)) (eq-or-lt-of-le high)
+
 -- one backup in a file: nothing beats its choice
 module _ (p : Problem) (formed : WellFormed p) (v : ℕ → ℕ) (s : ℕ) (state : s < p .states) where
-  few : endRow p s ≤ giveUp
-  few = omega (arith, rows-within p formed s state, formed .rows-high)
+  few : (r : ℕ) → ownRow p s r ≡ true → r < giveUp
+  few r own = omega (arith, row-no-mark p formed s r state own)
 
   pub choice-unbeaten : (prev r : ℕ) → p .firstRow s ≤ r → r < endRow p s → threshold (choice p v s prev) ≤ rowValue p v r
-  unfolding choice chooseIf
-  choice-unbeaten prev r low high = go (ownRow p s prev) refl
-    where
-      go
-          : (b : Bool) → ownRow p s prev ≡ b
-          → threshold (chooseFrom (rowValue p v) prev (p .firstRow s) (p .rowCount s) (chooseIf b (rowValue p v) prev (givingUp p)))
-          ≤ rowValue p v r
-      go true e =
-          from-under (rowValue p v) prev _ _ _ few
-          (λ a b. choose-under (rowValue p v) prev (givingUp p) (omega (arith, row-no-mark p formed s prev state e))) r low high
-      go false e =
-          from-under (rowValue p v) prev _ _ _ few (λ a b. absurd (true≢false (sym (own-within p s prev a b) ∙ e))) r low high
+  unfolding choice
+  choice-unbeaten prev r low high =
+      let q = rowValue p v in
+      traverse-every p s prev (choose q) (givingUp p) (λ i c. threshold c ≤ q i) (λ i c own. choose-under q i c (few i own))
+      (λ i j c own h. omega (arith, choose-falls q j c (few j own))) r (own-within p s r low high)
 
   pub choice-under : (prev r : ℕ) → p .firstRow s ≤ r → r < endRow p s → choice p v s prev .best ≤ rowValue p v r
   choice-under prev r low high = omega (arith, threshold-near (choice p v s prev) .0, choice-unbeaten prev r low high)
@@ -293,18 +191,19 @@ module _ (p : Problem) (formed : WellFormed p) (v : ℕ → ℕ) (s : ℕ) (stat
   pub landed-again
       : (c : Chosen) → Landed p v s c → ((r : ℕ) → p .firstRow s ≤ r → r < endRow p s → threshold c ≤ rowValue p v r)
       → choice p v s (c .pick) ≡ c
-  unfolding choice chooseIf
-  landed-again c (at-giving-up e b) unbeaten =
-      let same = threshold-giving-up c e in
-      rw (e, giveUp-not-own p formed s state)
-      (from-idle (rowValue p v) giveUp _ _ (givingUp p)
-      (λ i low high. omega (arith, threshold-giving-up (givingUp p) refl, same, unbeaten i low high)) ∙ same-chosen (sym b) refl)
-  landed-again c (at-row own b high) unbeaten =
-      let ties = threshold-giving-up (givingUp p) refl in
-      rw own
-      (ap (chooseFrom (rowValue p v) (c .pick) (p .firstRow s) (p .rowCount s))
-      (choose-takes (rowValue p v) (c .pick) (givingUp p) (omega (arith, ties)) ∙ same-chosen (sym b) refl)
-      ∙ from-idle (rowValue p v) (c .pick) _ _ c unbeaten)
+  unfolding choice
+  landed-again c landed unbeaten =
+      traverse-idle p s (c .pick) (choose (rowValue p v)) (givingUp p) (λ own. first own landed) (λ none. given none landed)
+      (λ i own other. choose-idle (rowValue p v) i c (unbeaten i (own-low p s i own) (own-high p s i own)))
+    where
+      first : ownRow p s (c .pick) ≡ true → Landed p v s c → choose (rowValue p v) (c .pick) (givingUp p) ≡ c
+      first own (at-giving-up e b) = absurd (omega (arith, few (c .pick) own))
+      first own (at-row o b high) =
+          choose-takes (rowValue p v) (c .pick) (givingUp p) (omega (arith, threshold-giving-up (givingUp p) refl)) ∙ same-chosen (sym b) refl
+
+      given : ownRow p s (c .pick) ≡ false → Landed p v s c → givingUp p ≡ c
+      given none (at-giving-up e b) = same-chosen (sym b) (sym e)
+      given none (at-row own b high) = absurd (true≢false (sym own ∙ none))
 
   -- "repick": a choice is its own next choice
   pub choice-again : (prev : ℕ) → choice p v s (choice p v s prev .pick) ≡ choice p v s prev
@@ -323,22 +222,30 @@ module _ (p : Problem) (formed : WellFormed p) (v : ℕ → ℕ) (s : ℕ) (stat
   pub order-wins
       : (prev : ℕ) → (choice p v s prev .pick ≡ prev → ⊥) → (r : ℕ) → ownRow p s r ≡ true → r < choice p v s prev .pick
       → choice p v s prev .best < rowValue p v r
-  unfolding choice chooseIf
+  unfolding choice
   order-wins prev other r own before = go (ℕ-discrete r prev)
     where
-      begun : (b : Bool) → Placed (rowValue p v) prev (p .firstRow s) (chooseIf b (rowValue p v) prev (givingUp p))
-      begun true =
-          choose-keeps (rowValue p v) prev (givingUp p) (Placed (rowValue p v) prev (p .firstRow s)) (λ l. at-mark refl)
-          (λ l. at-prev refl)
-      begun false = at-mark refl
+      q : ℕ → ℕ
+      q = rowValue p v
+
+      first : ℕ
+      first = p .firstRow s
+
+      order : Order q prev first (endRow p s) (traverse (choose q) p s prev (givingUp p))
+      order =
+          traverse-along p s prev (choose q) (givingUp p) (Order q prev first)
+          (λ o. order-begins q prev first _ (choose-keeps q prev (givingUp p) (Placed prev first) (λ l. at-mark refl) (λ l. at-prev refl)))
+          (λ none. order-begins q prev first _ (at-mark refl))
+          (λ i c o ne h.
+          choose-keeps q i c (Order q prev first (suc i)) (λ l. order-on q prev first i c (λ k. l) h)
+          (λ l. order-picked q prev first i c (few i o) l h))
+          (λ c o h. order-on q prev first prev c (λ ne. absurd (ne refl)) h)
 
       go : Dec (r ≡ prev) → choice p v s prev .best < rowValue p v r
       go (yes at) =
           ⊎-elim (λ same. absurd (other (pick-stays prev (rw at at own) (omega (arith, ap (rowValue p v) at))))) (λ l. l)
           (eq-or-lt-of-le (choice-under prev r (own-low p s r own) (own-high p s r own)))
-      go (no off) =
-          from-first (rowValue p v) prev _ _ _ few (begun (ownRow p s prev)) r (own-low p s r own) (own-high p s r own) off
-          other before
+      go (no off) = order .wins r (own-low p s r own) (own-high p s r own) off other before
 
   -- E1: "a stick is given up only when that is cheaper": where the choice gives up, every own row costs more than 1000 × D
   pub gives-up-dear

@@ -1,21 +1,20 @@
 -- How many evaluations are counted: no step takes any back, a backup counts each own row at most once, a round each row of the file.
 -- The row picked before is considered first and passed over in the scan; the listed states are distinct, so their rows are too.
-use mathlib.Core.Path.{_≡_, refl}
-use Prim.Native.Nat.{ℕ, zero, suc, _+_, _≤_, _<_}
+use mathlib.Core.Path.{_≡_}
+use Prim.Native.Nat.{ℕ, suc, _+_, _≤_, _<_}
 use native.Mathlib.Omega.{arith}
-use native.Mathlib.Decide.{ℕ-discrete}
-use mathlib.Core.Bool.{Bool, true, false, not}
+use mathlib.Core.Bool.{Bool, true, false}
 use mathlib.Core.List.{List, [], _∷_}
-use lib.Dec.{eqb}
 use lib.ListN.{getD}
-use borrow.Author.Tests.{eq-eqb}
-use Rattle.model.specs.Problem.{Problem, ownRow}
+use Rattle.model.specs.Problem.{Problem, endRow, ownRow}
 use Rattle.model.specs.Value.{rowValue, byState}
 use Rattle.model.specs.Walk.{walk}
-use Rattle.model.specs.Rounds.{Found, Machine, beats, skipped, evaluateOn, considerOn, consider, considerIf, scanFrom, scan}
+use Rattle.model.specs.Traversal.{othersFrom}
+use Rattle.model.specs.Rounds.{Found, Machine, beats, skipped, evaluateOn, considerOn, consider, scan}
 use Rattle.model.specs.Rounds.{scanStart, settle, backup, backups, walked, round}
 use Rattle.guarantee.specs.WellFormed.{WellFormed}
 use Rattle.guarantee.specs.Rows.{own-low, own-high}
+use Rattle.guarantee.specs.Traversals.{others-keep, traverse-along}
 use Rattle.guarantee.specs.Graphs.{sumOver}
 use Rattle.guarantee.specs.Walks.{listed-rows}
 
@@ -38,47 +37,41 @@ module _ (p : Problem) (v : ℕ → ℕ) where
       go true = omega arith
       go false = evaluated-count (beats (rowValue p v r) (a .best) (a .pick)) (rowValue p v r) r a
 
-  pub if-count : (b : Bool) (r : ℕ) (a : Found) → Counted (a .count) (considerIf b p v r a .count) 1
-  unfolding considerIf
-  if-count true r a = consider-count r a
-  if-count false r a = omega arith
+  pub others-count : (prev r k : ℕ) (a : Found) → a .count ≤ othersFrom (consider p v) prev r k a .count
+  others-count prev r k a =
+      others-keep (consider p v) prev k r a (λ (b : Found). a .count ≤ b .count) (λ i b l. omega (arith, l, consider-count i b .no-less)) (omega arith)
 
-  -- k rows count at most k, and one less where the row picked before is among them
-  pub from-count : (prev r k : ℕ) (a : Found) → Counted (a .count) (scanFrom p v prev r k a .count) k
-  unfolding scanFrom
-  from-count prev r zero a = omega arith
-  from-count prev r (suc k) a =
-      omega (arith, if-count (not (eqb r prev)) r a, from-count prev (suc r) k (considerIf (not (eqb r prev)) p v r a))
-
-  pub from-count-own
-      : (prev r k : ℕ) (a : Found) → r ≤ prev → prev < r + k → scanFrom p v prev r k a .count + 1 ≤ a .count + k
-  unfolding scanFrom considerIf
-  from-count-own prev r zero a low high = absurd (omega arith)
-  from-count-own prev r (suc k) a low high = go (ℕ-discrete r prev) (from-count-own prev (suc r) k)
-    where
-      b : Found
-      b = considerIf (not (eqb r prev)) p v r a
-
-      go : Dec (r ≡ prev) → ((c : Found) → suc r ≤ prev → prev < suc r + k → scanFrom p v prev (suc r) k c .count + 1 ≤ c .count + k)
-          → scanFrom p v prev (suc r) k b .count + 1 ≤ a .count + suc k
-      go (yes e) next = rw (eq-eqb r prev e) (omega (arith, from-count prev (suc r) k a))
-      go (no d) next = omega (arith, if-count (not (eqb r prev)) r a, next b (omega arith) (omega arith))
+  -- when a scan has come to row j: one row more may be counted than those before j, while the one picked before is not passed over
+  record CountedTo (s prev base j : ℕ) (a : Found) : Type 0 where
+    no-less : base ≤ a .count
+    near : a .count + p .firstRow s ≤ base + j + 1
+    no-more : (ownRow p s prev ≡ true → prev < j) → a .count + p .firstRow s ≤ base + j
 
   -- a scan counts at most the state's rows
   pub scan-count : (s prev : ℕ) (a : Found) → Counted (a .count) (scan p v s prev a .count) (p .rowCount s)
-  unfolding scan considerIf
-  scan-count s prev a = go (ownRow p s prev) refl
+  scan-count s prev a = record { no-less = to .no-less; no-more = omega (arith, to .no-more (own-high p s prev)) }
     where
-      go : (b : Bool) → ownRow p s prev ≡ b
-          → Counted (a .count) (scanFrom p v prev (p .firstRow s) (p .rowCount s) (considerIf b p v prev a) .count) (p .rowCount s)
-      go true o =
-          omega (
-            arith,
-            if-count true prev a,
-            from-count prev (p .firstRow s) (p .rowCount s) (considerIf true p v prev a),
-            from-count-own prev (p .firstRow s) (p .rowCount s) (considerIf true p v prev a) (own-low p s prev o) (own-high p s prev o),
-          )
-      go false o = from-count prev (p .firstRow s) (p .rowCount s) a
+      to : CountedTo s prev (a .count) (endRow p s) (scan p v s prev a)
+      to =
+          traverse-along p s prev (consider p v) a (CountedTo s prev (a .count))
+          (λ own.
+          let one = consider-count prev a in
+          record {
+            no-less = one .no-less;
+            near = omega (arith, one .no-more);
+            no-more = λ past. absurd (omega (arith, past own, own-low p s prev own));
+          })
+          (λ none. record { no-less = omega arith; near = omega arith; no-more = λ past. omega arith })
+          (λ i b own other h.
+          let one = consider-count i b in
+          let before : (ownRow p s prev ≡ true → prev < suc i) → b .count + p .firstRow s ≤ a .count + i =
+          λ past. h .no-more (λ o. omega (arith, past o, other)) in
+          record {
+            no-less = omega (arith, h .no-less, one .no-less);
+            near = omega (arith, h .near, one .no-more);
+            no-more = λ past. omega (arith, before past, one .no-more);
+          })
+          (λ b own h. record { no-less = h .no-less; near = omega (arith, h .near); no-more = λ past. omega (arith, h .near) })
 
 module _ (p : Problem) (e : ℕ) where
   pub backup-count : (s : ℕ) (m : Machine) → Counted (m .evaluations) (backup p e s m .evaluations) (p .rowCount s)

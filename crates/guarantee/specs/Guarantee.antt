@@ -5,7 +5,7 @@
 use mathlib.Core.Path.{_≡_, _∙_, ap}
 use Prim.Native.Nat.{ℕ, _+_, _-_, _*_, _≤_, _<_}
 use native.Mathlib.Omega.{arith}
-use mathlib.Core.Bool.{true, false}
+use mathlib.Core.Bool.{Bool, true, false}
 use mathlib.Core.Logic.{_⊎_, _↔_}
 use mathlib.Core.List.{List, [], _∷_}
 use lib.Dec.{eqb}
@@ -17,7 +17,7 @@ use Rattle.model.specs.Value.{byState, weightedSum, rowTicks, rowValue, rowRema
 use Rattle.model.specs.Sections.{lengthSeconds, rateSeconds, kindOf, costNumberOf, problemOf}
 use Rattle.model.specs.Questions.{passes, fails, _then_, fileQuestions}
 use Rattle.model.specs.Walk.{In, walk, Reached, successors, pickCost, leastCost}
-use Rattle.model.specs.Rounds.{Machine, scanOf, backup, backups, walked, round, machineStart, runOf, listTable, bellman}
+use Rattle.model.specs.Rounds.{Machine, scanOf, backup, backups, walked, round, machineStart, runFrom, runOf, listTable, bellman}
 use Rattle.model.specs.Solution.{fine, Tables, solved, spent, refused, solutionOf, solveQuestions, solution}
 use Rattle.model.specs.Audit.{accepted, refused as audit-refused, ownPick, audit}
 use Rattle.model.specs.Following.{wayTo, waySeconds, hasOutcome, done, refused as report-refused, Report, atStart, opening, report}
@@ -282,25 +282,31 @@ refusal f budget t q i h = let by = refused-by f budget t q i h in (by .failed, 
 pub never-overflows : (f : List ℕ) (budget : ℕ) (t : Tables) (r : ℕ) → solution f budget t .answer ≡ refused 14 r → ⊥
 never-overflows = never-fourteen
 
--- The machines that the run of a problem from lent tables meets, with the states that are still to be backed up in their round: at first;
--- after the walk of a round, with the whole list; after the backup of the state whose turn it is, with the states behind it.
+-- The machines that rounds of a problem from lent tables meet, with the states that are still to be backed up in their round: at first;
+-- after the walk of a round, with the whole list; after the backup of the state whose turn it is, with whatever tolerance, with the states
+-- behind it.
 pub data Met (p : Problem) (t : Tables) : List ℕ → Machine → Type 0 where
   starts : Met p t [] (machineStart p (t .values) (t .picks) (t .remembered))
   walks : {m : Machine} → Met p t [] m → Met p t (walk p (byState (m .picks)) .list) (walked p m)
-  backs-up : {s : ℕ} {rest : List ℕ} {m : Machine} → Met p t (s ∷ rest) m → Met p t rest (backup p (p .tolerance) s m)
+  backs-up : (e : ℕ) {s : ℕ} {rest : List ℕ} {m : Machine} → Met p t (s ∷ rest) m → Met p t rest (backup p e s m)
 
-backups-met : (p : Problem) (t : Tables) (l : List ℕ) (m : Machine) → Met p t l m → Met p t [] (backups p (p .tolerance) l m)
-unfolding backups
-backups-met p t [] m met = met
-backups-met p t (s ∷ l) m met = backups-met p t l (backup p (p .tolerance) s m) (backs-up met)
+module _ (p : Problem) (t : Tables) (e : ℕ) where
+  backups-met : (l : List ℕ) (m : Machine) → Met p t l m → Met p t [] (backups p e l m)
+  unfolding backups
+  backups-met [] m met = met
+  backups-met (s ∷ l) m met = backups-met l (backup p e s m) (backs-up e met)
 
-round-met : (p : Problem) (t : Tables) (m : Machine) → Met p t [] m → Met p t [] (round p (p .tolerance) m)
-unfolding round
-round-met p t m met = backups-met p t (walk p (byState (m .picks)) .list) (walked p m) (walks met)
+  round-met : (m : Machine) → Met p t [] m → Met p t [] (round p e m)
+  unfolding round
+  round-met m met = backups-met (walk p (byState (m .picks)) .list) (walked p m) (walks met)
 
--- whatever the budget, and so after each round, the run's machine is met
+  -- a run from a machine that is met, with whatever tolerance and budget, and so after each round, ends at one
+  pub run-goes-on-met
+      : (budget : ℕ) (going : Bool) (n : ℕ) (m : Machine) → Met p t [] m → Met p t [] (machineOf (runFrom p e budget going n m))
+  run-goes-on-met = run-keeps p e (λ n. Met p t []) (λ n. round-met)
+
 pub run-met : (p : Problem) (t : Tables) (budget : ℕ) → Met p t [] (machineOf (runOf p budget (t .values) (t .picks) (t .remembered)))
-run-met p t budget = run-keeps p (p .tolerance) (λ n. Met p t []) (λ n. round-met p t) budget true 0 _ starts
+run-met p t budget = run-goes-on-met p t (p .tolerance) budget true 0 _ starts
 
 -- What holds on every round of a file and lent tables that pass questions 1 to 13.
 module _ (f : List ℕ) (budget : ℕ) (t : Tables) (file : fileQuestions f ≡ passes)
@@ -308,8 +314,8 @@ module _ (f : List ℕ) (budget : ℕ) (t : Tables) (file : fileQuestions f ≡ 
   underway : {rest : List ℕ} {m : Machine} → Met (problemOf f) t rest m → Underway (problemOf f) rest m
   underway starts = underway-start (problemOf f) _ (lent-sound f budget t file lent)
   underway (walks {m = m} met) = underway-walked (problemOf f) (well-formed f file) (problemOf f .tolerance) m (underway met)
-  underway (backs-up {s = s} {rest = rest} {m = m} met) =
-      underway-backup (problemOf f) (well-formed f file) (problemOf f .tolerance) s rest m (underway met)
+  underway (backs-up e {s = s} {rest = rest} {m = m} met) =
+      underway-backup (problemOf f) (well-formed f file) e s rest m (underway met)
 
   -- Demand 2: "A solved or spent run equals, in values, moves and counts, the rounds of document 01, built on the Bellman backup". Best of
   -- a backup is document 000's definition 4 under the values of that moment, with giving up as one more choice
@@ -371,10 +377,10 @@ module _ (f : List ℕ) (budget : ℕ) (t : Tables) (file : fileQuestions f ≡ 
 
   -- values only rise
   pub values-rise
-      : {s : ℕ} {rest : List ℕ} {m : Machine} → Met (problemOf f) t (s ∷ rest) m → (x : ℕ)
-      → getD (m .values) x 0 ≤ getD (backup (problemOf f) (problemOf f .tolerance) s m .values) x 0
+      : {s : ℕ} {rest : List ℕ} {m : Machine} → Met (problemOf f) t (s ∷ rest) m → (e x : ℕ)
+      → getD (m .values) x 0 ≤ getD (backup (problemOf f) e s m .values) x 0
   values-rise {s = s} {m = m} met =
-      backup-rises (problemOf f) (well-formed f file) s m (turn-open (underway met) .state) (underway met .sound) (problemOf f .tolerance)
+      backup-rises (problemOf f) (well-formed f file) s m (turn-open (underway met) .state) (underway met .sound)
 
   -- and stay at most 1000 × D
   pub values-high

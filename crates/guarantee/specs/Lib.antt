@@ -11,6 +11,7 @@ pub mod Walks
 pub mod Accepted
 pub mod Rows
 pub mod Tables
+pub mod Traversals
 pub mod Choosing
 pub mod Scans
 pub mod Bellman

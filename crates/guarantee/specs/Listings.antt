@@ -28,8 +28,7 @@ use Rattle.guarantee.specs.Graphs.{in-cons, in-nil, set-entry}
 use Rattle.guarantee.specs.Choosing.{OwnPick, landed-pick}
 use Rattle.guarantee.specs.Sound.{Sound, scan-landed, backup-sound}
 use Rattle.guarantee.specs.Backups.{Open, machineOf, backup-picks, walk-opens, round-list, walked-sound, round-sound, run-keeps}
-use Rattle.guarantee.specs.Solved.{solved-final}
-use Rattle.guarantee.specs.Solutions.{Told, turned-down, ran, told, lent-sound, lent-long, runWith, solved-by}
+use Rattle.guarantee.specs.Solutions.{Told, turned-down, ran, told, lent-sound, runWith, solved-by, solved-ends}
 
 abbrev Has : Problem → Machine → ℕ → Type 0
 Has p m s = OwnPick p s (getD (m .picks) s 0)
@@ -179,12 +178,8 @@ module _ (f : List ℕ) (budget : ℕ) (t : Tables) where
         : solution f budget t .tables .walk-list
         ≡ listTable (problemOf f .states) (walk (problemOf f) (byState (solution f budget t .tables .picks)) .list) (t .walk-list)
     solved-list =
-        let p = problemOf f in
         let by = solved-by f budget t n e C h in
-        let long = lent-long p budget t (by .lent) in
-        let final = solved-final p (well-formed f (by .file)) (t .values) (t .picks) (t .remembered) (long .values-long)
-        (long .picks-long) (long .remembered-long) budget n (by .machine) (by .run) in
-        rw (by .left) (ap (λ l. listTable (p .states) l (t .walk-list)) (final .listed))
+        rw (by .left) (ap (λ l. listTable (problemOf f .states) l (t .walk-list)) (solved-ends f budget t by .listed))
 
     -- so the states with a line are those that the plan comes to, goals aside
     pub solved-lines

@@ -15,11 +15,11 @@ use Rattle.model.specs.Problem.{Problem, giveUpCost}
 use Rattle.model.specs.Search.{sumTo}
 use Rattle.model.specs.Value.{byState}
 use Rattle.model.specs.Cover.{allowanceOn, allowanceTo, openTo}
-use Rattle.model.specs.Rounds.{Machine, scanOf, backup, round}
+use Rattle.model.specs.Rounds.{Machine, scanOf, backup, round, choice}
 use Rattle.guarantee.specs.WellFormed.{WellFormed}
 use Rattle.guarantee.specs.Sums.{sum-below, sum-less, quotient-less}
 use Rattle.guarantee.specs.Values.{quotient-rises}
-use Rattle.guarantee.specs.Choosing.{choice, choice-again}
+use Rattle.guarantee.specs.Choosing.{choice-again}
 use Rattle.guarantee.specs.Sound.{Sound, scan-law, best-high, backup-rises, backup-sound}
 use Rattle.guarantee.specs.Backups.{Open, Backed, rose, turned, rested, backed, backup-picks, round-keeps, walked-sound}
 

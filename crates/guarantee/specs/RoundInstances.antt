@@ -17,7 +17,8 @@ use Rattle.model.specs.Sections.{statesAt, rowsAt, outcomesAt, outcomesFrom, le
 use Rattle.model.specs.Questions.{passes}
 use Rattle.model.specs.Walk.{In, Reached, at-start, visitOutcomes, visitState, next, walk, pickCost, leastCost}
 use Rattle.model.specs.Rounds.{Machine, fillTo, machineStart, walked, scanOf, bellman, beats, evaluateOn, considerOn, consider}
-use Rattle.model.specs.Rounds.{considerIf, scanFrom, scan, raiseOn, settle, backup}
+use Rattle.model.specs.Traversal.{takenIf, othersFrom, traverse}
+use Rattle.model.specs.Rounds.{raiseOn, settle, backup}
 use Rattle.model.specs.Solution.{Solution, solveQuestions}
 use Rattle.model.specs.Following.{moved}
 use Rattle.guarantee.specs.Graphs.{clear-entry}
@@ -68,7 +69,7 @@ p-forgets =
     (λ r l. omega (arith, clear-entry 3 r))
 
 pub p-rises : getD (firstP .values) 0 0 ≤ getD (backup problemP (problemP .tolerance) 0 firstP .values) 0 0
-p-rises = values-rise fileP planRounds (lent 3) p-passes p-rounds-go p-met 0
+p-rises = values-rise fileP planRounds (lent 3) p-passes p-rounds-go p-met (problemP .tolerance) 0
 
 pub p-holds
     : (getD (firstP .values) 0 0 ≤ giveUpCost problemP) × Allowed problemP 0 (getD (firstP .picks) 0 0)
@@ -98,13 +99,13 @@ secondCheap =
     walked p (backup p (p .tolerance) 0 (walked p (machineStart p (lent 3 .values) (lent 3 .picks) (lent 3 .remembered))))
 
 pub cheap-met : Met (problemOf (penaltyP 100 0)) (lent 3) (1 ∷ 0 ∷ []) secondCheap
-unfolding walk visitState visitOutcomes next machineStart fillTo backup settle raiseOn scan scanFrom consider considerIf considerOn
+unfolding walk visitState visitOutcomes next machineStart fillTo backup settle raiseOn traverse othersFrom takenIf consider considerOn
     beats evaluateOn problemOf statesAt rowsAt outcomesAt outcomesFrom secondsOn rateSeconds lengthSeconds sumTo u16At u32At rowValue
     weightedSum
-cheap-met = walks (backs-up {s = 0} {rest = []} (walks starts))
+cheap-met = walks (backs-up (problemOf (penaltyP 100 0) .tolerance) {s = 0} {rest = []} (walks starts))
 
 pub cheap-gives-up : giveUpCost (problemOf (penaltyP 100 0)) < rowValue (problemOf (penaltyP 100 0)) (byState (secondCheap .values)) 2
-unfolding walk visitState visitOutcomes next machineStart fillTo backup settle raiseOn scan scanFrom consider considerIf considerOn
+unfolding walk visitState visitOutcomes next machineStart fillTo backup settle raiseOn traverse othersFrom takenIf consider considerOn
     beats evaluateOn solveQuestions problemOf statesAt rowsAt outcomesAt outcomesFrom secondsOn rateSeconds lengthSeconds sumTo u16At u32At
     rowValue weightedSum
 cheap-gives-up =
@@ -136,10 +137,10 @@ abbrev pub secondTied : Machine
 secondTied = walked (problemOf tied) (backup (problemOf tied) (problemOf tied .tolerance) 0 firstTied)
 
 pub tied-again : scanOf (problemOf tied) 0 secondTied .pick ≡ 0
-unfolding walk visitState visitOutcomes next machineStart fillTo backup settle raiseOn scan scanFrom consider considerIf considerOn
+unfolding walk visitState visitOutcomes next machineStart fillTo backup settle raiseOn traverse othersFrom takenIf consider considerOn
     beats evaluateOn problemOf statesAt rowsAt outcomesAt outcomesFrom secondsOn sumTo u16At u32At rowValue weightedSum
 tied-again =
-    earlier-pick-wins tied planRounds (lent 2) (requested-hold .1 .1 .1 .1 .1 .1 .1 .0) tied-lent (walks (backs-up tied-met)) refl
+    earlier-pick-wins tied planRounds (lent 2) (requested-hold .1 .1 .1 .1 .1 .1 .1 .0) tied-lent (walks (backs-up (problemOf tied .tolerance) tied-met)) refl
     (leb-true _ _ refl)
 
 -- and on a file whose row 1 is cheaper at first: it is picked, and row 0, before it, costs more
@@ -151,7 +152,7 @@ unfolding walk visitState visitOutcomes next machineStart fillTo problemOf state
 later-met = walks starts
 
 later-picks : (scanOf (problemOf tiedLater) 0 firstLater .pick ≡ 1) × (getD (firstLater .picks) 0 0 ≡ noPick)
-unfolding machineStart fillTo scan scanFrom consider considerIf considerOn beats evaluateOn problemOf statesAt rowsAt outcomesAt
+unfolding machineStart fillTo traverse othersFrom takenIf consider considerOn beats evaluateOn problemOf statesAt rowsAt outcomesAt
     outcomesFrom secondsOn sumTo u16At u32At rowValue weightedSum
 later-picks = (refl, refl)
 

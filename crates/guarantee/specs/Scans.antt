@@ -1,20 +1,22 @@
 -- The scan of a state's rows, with its skipping and its memory, ends where the choice that skips nothing ends.
 -- A remembered value is at most the row value, so a skipped row would not have been picked.
 use mathlib.Core.Path.{_≡_, refl, sym, _∙_, ap}
-use Prim.Native.Nat.{ℕ, zero, suc, _+_, _≤_, _<_}
+use Prim.Native.Nat.{ℕ, _≤_, _<_}
 use native.Mathlib.Omega.{arith}
 use mathlib.Core.Bool.{Bool, true, false, not}
 use mathlib.Core.List.{List}
-use lib.Dec.{ltb, eqb}
+use lib.Dec.{ltb}
 use lib.ListN.{getD, set, length, length-set}
 use borrow.Author.Tests.{ltb-false}
-use Rattle.model.specs.Problem.{Problem, ownRow}
+use Rattle.model.specs.Problem.{Problem}
 use Rattle.model.specs.Value.{rowValue}
-use Rattle.model.specs.Rounds.{Found, beats, evaluateOn, considerOn, consider, considerIf, scanFrom, scan}
+use Rattle.model.specs.Traversal.{traverse}
+use Rattle.model.specs.Rounds.{Found, beats, evaluateOn, considerOn, consider, scan, Chosen, pickOf, chooseOn, choose}
 use Rattle.guarantee.specs.WellFormed.{WellFormed}
 use Rattle.guarantee.specs.Tables.{stored}
-use Rattle.guarantee.specs.Walks.{rows-within, own-row}
-use Rattle.guarantee.specs.Choosing.{Chosen, pickOf, threshold, beats-below, chooseOn, choose, chooseIf, chooseFrom, choose-idle}
+use Rattle.guarantee.specs.Walks.{own-row}
+use Rattle.guarantee.specs.Traversals.{both-keep}
+use Rattle.guarantee.specs.Choosing.{threshold, beats-below, choose-idle}
 
 -- what each row remembers is at most its value under v
 abbrev pub Memory : Problem → (ℕ → ℕ) → List ℕ → Type 0
@@ -33,9 +35,6 @@ pub record Scanned (p : Problem) (v : ℕ → ℕ) (a a′ : Found) (c : Chosen)
 module _ (p : Problem) (v : ℕ → ℕ) where
   pub memory-stored : (l : List ℕ) (r : ℕ) → Memory p v l → Memory p v (set l r (rowValue p v r))
   memory-stored l r h = stored (λ i x. i < p .rows → x ≤ rowValue p v i) l r (rowValue p v r) h (λ k. omega arith)
-
-  pub scanned-none : (a : Found) → Memory p v (a .remembered) → Scanned p v a a (chosen a)
-  scanned-none a h = record { ends = refl; memory = h; size = refl }
 
   evaluated : (b : Bool) (r : ℕ) (a : Found) → Memory p v (a .remembered)
       → Scanned p v a (evaluateOn b (rowValue p v r) r a) (chooseOn b (rowValue p v r) r (chosen a))
@@ -61,34 +60,18 @@ module _ (p : Problem) (v : ℕ → ℕ) where
       go true e = evaluated (beats (rowValue p v r) (a .best) (a .pick)) r a h
       go false e = record { ends = sym (skipped-not-better r a l h (ltb-false _ _ e)); memory = h; size = refl }
 
-  pub considered-if
-      : (b : Bool) (r : ℕ) (a : Found) → (b ≡ true → r < p .rows) → Memory p v (a .remembered)
-      → Scanned p v a (considerIf b p v r a) (chooseIf b (rowValue p v) r (chosen a))
-  unfolding considerIf chooseIf
-  considered-if true r a l h = considered r a (l refl) h
-  considered-if false r a l h = scanned-none a h
-
-  -- two parts of a scan in a row
-  pub scanned-then
-      : {a b d : Found} {c : Chosen} (f : Chosen → Chosen) → Scanned p v a b c → Scanned p v b d (f (chosen b)) → Scanned p v a d (f c)
-  scanned-then f x y = record { ends = y .ends ∙ ap f (x .ends); memory = y .memory; size = y .size ∙ x .size }
-
-  pub scanned-from
-      : (prev k r : ℕ) (a : Found) → r + k ≤ p .rows → Memory p v (a .remembered)
-      → Scanned p v a (scanFrom p v prev r k a) (chooseFrom (rowValue p v) prev r k (chosen a))
-  unfolding scanFrom chooseFrom
-  scanned-from prev zero r a l h = scanned-none a h
-  scanned-from prev (suc k) r a l h =
-      let one = considered-if (not (eqb r prev)) r a (λ e. omega arith) h in
-      scanned-then (chooseFrom (rowValue p v) prev (suc r) k) one (scanned-from prev k (suc r) _ (omega arith) (one .memory))
+  -- one row more
+  scanned-then
+      : {a b d : Found} {c : Chosen} (r : ℕ) → Scanned p v a b c → Scanned p v b d (choose (rowValue p v) r (chosen b))
+      → Scanned p v a d (choose (rowValue p v) r c)
+  scanned-then r x y =
+      record { ends = y .ends ∙ ap (choose (rowValue p v) r) (x .ends); memory = y .memory; size = y .size ∙ x .size }
 
   -- the whole scan of a state
   pub scanned
       : WellFormed p → (s prev : ℕ) (a : Found) → s < p .states → Memory p v (a .remembered)
-      → Scanned p v a (scan p v s prev a)
-      (chooseFrom (rowValue p v) prev (p .firstRow s) (p .rowCount s) (chooseIf (ownRow p s prev) (rowValue p v) prev (chosen a)))
-  unfolding scan
+      → Scanned p v a (scan p v s prev a) (traverse (choose (rowValue p v)) p s prev (chosen a))
   scanned formed s prev a l h =
-      let one = considered-if (ownRow p s prev) prev a (own-row p formed s prev l) h in
-      scanned-then (chooseFrom (rowValue p v) prev (p .firstRow s) (p .rowCount s)) one
-      (scanned-from prev (p .rowCount s) (p .firstRow s) _ (rows-within p formed s l) (one .memory))
+      both-keep p s prev (consider p v) (choose (rowValue p v)) (Scanned p v a) a (chosen a)
+      (λ i b c own so. scanned-then i so (considered i b (own-row p formed s i l own) (so .memory)))
+      (record { ends = refl; memory = h; size = refl })

@@ -27,7 +27,7 @@ use Rattle.guarantee.specs.Sound.{Sound, start-sound}
 use Rattle.guarantee.specs.Backups.{run-spent}
 use Rattle.guarantee.specs.Checks.{checked-run}
 use Rattle.guarantee.specs.Ending.{solve-ends}
-use Rattle.guarantee.specs.Solved.{solved-passes-audit, solved-gives-up}
+use Rattle.guarantee.specs.Solved.{Final, solved-final, final-passes-audit, final-gives-up}
 
 -- what questions 12 and 13 give
 pub record Lent (p : Problem) (budget : ℕ) (t : Tables) : Type 0 where
@@ -225,17 +225,19 @@ module _ (f : List ℕ) (budget : ℕ) (t : Tables) where
   pub never-fourteen : (r : ℕ) → solution f budget t .answer ≡ refused 14 r → ⊥
   never-fourteen r h = omega (arith, early-number (early-questions f budget t) 14 r (refused-by 14 r h .failed) (omega arith))
 
+  -- and its machine is final
+  pub solved-ends : {n e C : ℕ} (by : SolvedBy f budget t n e C) → Final (problemOf f) (problemOf f .tolerance) (by .machine)
+  solved-ends {n} by =
+      let p = problemOf f in
+      solved-final p (well-formed f (by .file)) (p .tolerance) budget 0 _ n (by .machine) (lent-sound f budget t (by .file) (by .lent)) (by .run)
+
   -- whatever the budget: the audit accepts what a solved run left, and gives the run's C
   pub answer-accepted
       : (n e C : ℕ) → solution f budget t .answer ≡ solved n e C
       → audit f (solution f budget t .tables .values) (solution f budget t .tables .picks) ≡ accepted C
   answer-accepted n e C h =
       let by = solved-by n e C h in
-      let long = lent-long (problemOf f) budget t (by .lent) in
-      rw (by .left)
-      (solved-passes-audit f (t .values) (t .picks) (t .remembered) (by .file)
-      (long .values-long) (long .picks-long) (long .remembered-long)
-      budget n (by .machine) (by .run) ∙ ap accepted (by .least))
+      rw (by .left) (final-passes-audit f (by .file) (by .machine) (solved-ends by) ∙ ap accepted (by .least))
 
   -- E1: and where its plan gives up no row costs as little
   pub answer-gives-up
@@ -245,8 +247,4 @@ module _ (f : List ℕ) (budget : ℕ) (t : Tables) where
       → giveUpCost (problemOf f) < rowValue (problemOf f) (byState (solution f budget t .tables .values)) r
   answer-gives-up n e C h =
       let by = solved-by n e C h in
-      let long = lent-long (problemOf f) budget t (by .lent) in
-      rw (by .left)
-      (solved-gives-up (problemOf f) (well-formed f (by .file)) (t .values) (t .picks) (t .remembered)
-      (long .values-long) (long .picks-long) (long .remembered-long)
-      budget n (by .machine) (by .run))
+      rw (by .left) (final-gives-up (problemOf f) (well-formed f (by .file)) (problemOf f .tolerance) (by .machine) (solved-ends by))

@@ -7,7 +7,7 @@ use mathlib.Core.Bool.{true, false, true≢false}
 use mathlib.Core.List.{List, [], _∷_}
 use mathlib.Core.Logic.{⊎-elim}
 use lib.Dec.{eqb}
-use lib.ListN.{getD, length}
+use lib.ListN.{getD}
 use borrow.Author.Tests.{eqb-false, eq-eqb, ne-eqb}
 use Rattle.model.specs.Limits.{giveUp}
 use Rattle.model.specs.Problem.{Problem, giveUpCost, ownRow}
@@ -15,17 +15,17 @@ use Rattle.model.specs.Value.{rowValue, byState}
 use Rattle.model.specs.Walk.{In, here, there, walk, Reached, leastCost}
 use Rattle.model.specs.Sections.{problemOf}
 use Rattle.model.specs.Questions.{passes, fileQuestions}
-use Rattle.model.specs.Rounds.{Machine, scanOf, backup, backups, walked, round, solved, machineStart, runOf}
+use Rattle.model.specs.Rounds.{Machine, scanOf, backup, backups, walked, round, runFrom, solved, Chosen, choice}
 use Rattle.model.specs.Audit.{accepted, pickValue, audit}
-use Rattle.guarantee.specs.WellFormed.{WellFormed, well-formed}
+use Rattle.guarantee.specs.WellFormed.{WellFormed}
 use Rattle.guarantee.specs.Graphs.{in-cons, in-nil}
 use Rattle.guarantee.specs.Walks.{marked-reached, reached-listed}
 use Rattle.guarantee.specs.Rows.{row-no-mark}
-use Rattle.guarantee.specs.Choosing.{Chosen, choice, Landed, at-giving-up, at-row, OwnPick, landed-pick, choice-landed, gives-up-dear}
-use Rattle.guarantee.specs.Sound.{Sound, start-sound, scan-law, backup-sound}
+use Rattle.guarantee.specs.Choosing.{Landed, at-giving-up, at-row, OwnPick, landed-pick, choice-landed, gives-up-dear}
+use Rattle.guarantee.specs.Sound.{Sound, scan-law, backup-sound}
 use Rattle.guarantee.specs.Backups.{Open, Backed, rose, turned, rested}
 use Rattle.guarantee.specs.Backups.{backed, walk-opens, walked-sound, round-sound, round-list, run-quiet}
-use Rattle.guarantee.specs.Accepted.{Accepts, accepted-table, yes-audit}
+use Rattle.guarantee.specs.Accepted.{AcceptsWithin, accepted-table, yes-audit}
 
 -- a state that is at rest with tolerance e: its choice is its pick, and V(s) lies less than e below best
 pub record Rests (p : Problem) (e : ℕ) (values picks : List ℕ) (s : ℕ) : Type 0 where
@@ -96,15 +96,15 @@ module _ (p : Problem) (v picks : ℕ → ℕ) (s : ℕ) (c : Chosen) where
       rw (ne-eqb (picks s) giveUp (λ z. omega (arith, row-no-mark p formed s (c .pick) l own))) (rw (← same) (sym b))
 
 -- sound tables whose listed states rest are accepted
-module _ (p : Problem) (formed : WellFormed p) (m : Machine) (sound : Sound p m)
-    (rests : (s : ℕ) → In s (walk p (byState (m .picks)) .list) → Rests p (p .tolerance) (m .values) (m .picks) s) where
+module _ (p : Problem) (formed : WellFormed p) (e : ℕ) (m : Machine) (sound : Sound p m)
+    (rests : (s : ℕ) → In s (walk p (byState (m .picks)) .list) → Rests p e (m .values) (m .picks) s) where
   marked-rests
       : (s : ℕ) → p .goal s ≡ false → eqb (getD (walk p (byState (m .picks)) .marks) s 0) 0 ≡ false
-      → Rests p (p .tolerance) (m .values) (m .picks) s
+      → Rests p e (m .values) (m .picks) s
   marked-rests s no-goal marked =
       rests s (reached-listed p formed (byState (m .picks)) s (marked-reached p formed (byState (m .picks)) s (eqb-false _ _ marked)) no-goal)
 
-  pub resting-accepted : Accepts p (byState (m .values)) (byState (m .picks)) (leastCost p (byState (m .picks)))
+  pub resting-accepted : AcceptsWithin p e (byState (m .values)) (byState (m .picks)) (leastCost p (byState (m .picks)))
   resting-accepted =
       let v = byState (m .values) in
       let picks = byState (m .picks) in
@@ -120,54 +120,46 @@ module _ (p : Problem) (formed : WellFormed p) (m : Machine) (sound : Sound p m)
         least = refl;
       }
 
--- the end of a solved run
-pub record Final (p : Problem) (m : Machine) : Type 0 where
+-- the end of a solved run with tolerance e
+pub record Final (p : Problem) (e : ℕ) (m : Machine) : Type 0 where
   pub sound : Sound p m
   pub listed : m .list ≡ walk p (byState (m .picks)) .list
-  pub accepts : Accepts p (byState (m .values)) (byState (m .picks)) (leastCost p (byState (m .picks)))
-  pub rests : (s : ℕ) → In s (walk p (byState (m .picks)) .list) → Rests p (p .tolerance) (m .values) (m .picks) s
+  pub accepts : AcceptsWithin p e (byState (m .values)) (byState (m .picks)) (leastCost p (byState (m .picks)))
+  pub rests : (s : ℕ) → In s (walk p (byState (m .picks)) .list) → Rests p e (m .values) (m .picks) s
 
-quiet-final : (p : Problem) → WellFormed p → (m : Machine) → Sound p m → round p (p .tolerance) m .moved ≡ false
-    → Final p (round p (p .tolerance) m)
-quiet-final p formed m sound quiet =
-    let still = round-still p formed (p .tolerance) m sound quiet in
-    record {
-      sound = round-sound p formed (p .tolerance) m sound;
-      listed = round-list p (p .tolerance) m ∙ rw (still .picks) refl;
-      accepts = rw (still .values, still .picks) (resting-accepted p formed m sound (still .rests));
-      rests = rw (still .values, still .picks) (still .rests);
-    }
+module _ (p : Problem) (formed : WellFormed p) (e : ℕ) where
+  quiet-final : (m : Machine) → Sound p m → round p e m .moved ≡ false → Final p e (round p e m)
+  quiet-final m sound quiet =
+      let still = round-still p formed e m sound quiet in
+      record {
+        sound = round-sound p formed e m sound;
+        listed = round-list p e m ∙ rw (still .picks) refl;
+        accepts = rw (still .values, still .picks) (resting-accepted p formed e m sound (still .rests));
+        rests = rw (still .values, still .picks) (still .rests);
+      }
 
--- whatever the budget
-module _ (p : Problem) (formed : WellFormed p) (values picks remembered : List ℕ)
-    (long-values : p .states ≤ length values) (long-picks : p .states ≤ length picks) (long-remembered : p .rows ≤ length remembered)
-    (budget k : ℕ) (m : Machine) (run : runOf p budget values picks remembered ≡ solved k m) where
-  -- a solved run's tables are sound and accepted, and its list is the walk of its picks
-  pub solved-final : Final p m
-  solved-final =
-      let start = machineStart p values picks remembered in
-      let sound = start-sound p formed values picks remembered long-values long-picks long-remembered in
-      let last = run-quiet p (p .tolerance) (λ n. Sound p) (λ n. round-sound p formed (p .tolerance)) budget 0 start k m sound run in
-      rw (last .ends) at (quiet-final p formed (last .before) (last .held) (last .quiet))
+  -- from any sound machine, whatever the budget: a solved run's tables are sound and accepted, and its list is the walk of its picks
+  pub solved-final
+      : (budget n : ℕ) (start : Machine) (k : ℕ) (m : Machine) → Sound p start → runFrom p e budget true n start ≡ solved k m → Final p e m
+  solved-final budget n start k m sound run =
+      let last = run-quiet p e (λ n. Sound p) (λ n. round-sound p formed e) budget n start k m sound run in
+      rw (last .ends) at (quiet-final (last .before) (last .held) (last .quiet))
 
   -- E1: a reached state whose pick gives up has no row that costs as little under the values left
-  pub solved-gives-up
-      : (s : ℕ) → Reached p (byState (m .picks)) s → p .goal s ≡ false → byState (m .picks) s ≡ giveUp
+  pub final-gives-up
+      : (m : Machine) → Final p e m → (s : ℕ) → Reached p (byState (m .picks)) s → p .goal s ≡ false → byState (m .picks) s ≡ giveUp
       → (r : ℕ) → ownRow p s r ≡ true → giveUpCost p < rowValue p (byState (m .values)) r
-  solved-gives-up s reached no-goal gives =
+  final-gives-up m final s reached no-goal gives =
       let listed = reached-listed p formed (byState (m .picks)) s reached no-goal in
       let state = walk-opens p formed (byState (m .picks)) s listed .state in
-      gives-up-dear p formed (byState (m .values)) s state (byState (m .picks) s) (solved-final .rests s listed .same ∙ gives)
+      gives-up-dear p formed (byState (m .values)) s state (byState (m .picks) s) (final .rests s listed .same ∙ gives)
 
--- of a file: a solved run's tables pass the audit of the same file, which gives the run's C
-pub solved-passes-audit
-    : (f values picks remembered : List ℕ) → fileQuestions f ≡ passes
-    → problemOf f .states ≤ length values → problemOf f .states ≤ length picks → problemOf f .rows ≤ length remembered
-    → (budget k : ℕ) (m : Machine) → runOf (problemOf f) budget values picks remembered ≡ solved k m
+-- of a file: final tables pass its audit, which gives their C
+pub final-passes-audit
+    : (f : List ℕ) → fileQuestions f ≡ passes → (m : Machine) → Final (problemOf f) (problemOf f .tolerance) m
     → audit f (m .values) (m .picks) ≡ accepted (leastCost (problemOf f) (byState (m .picks)))
-solved-passes-audit f values picks remembered file long-values long-picks long-remembered budget k m run =
+final-passes-audit f file m final =
     let p = problemOf f in
-    let final = solved-final p (well-formed f file) values picks remembered long-values long-picks long-remembered budget k m run in
     yes-audit f (m .values) (m .picks) (leastCost p (byState (m .picks)))
     (record {
       file-passes = file;

@@ -10,14 +10,14 @@ use lib.ListN.{getD, length, length-set}
 use Rattle.model.specs.Limits.{giveUp, noPick, valueBound}
 use Rattle.model.specs.Problem.{Problem, giveUpCost, endRow, ownRow}
 use Rattle.model.specs.Value.{rowValue, byState}
-use Rattle.model.specs.Rounds.{Found, Machine, scanStart, scanOf, raiseOn, rises, settle, backup, machineStart, fillTo, bellman}
+use Rattle.model.specs.Rounds.{Found, Machine, scanStart, scanOf, raiseOn, rises, settle, backup, machineStart, fillTo, choice, bellman}
 use Rattle.guarantee.specs.Totals.{total-low}
 use Rattle.guarantee.specs.WellFormed.{WellFormed}
 use Rattle.guarantee.specs.Values.{rowValue-rises-all, rowValue-same-states, rowValue-fits}
 use Rattle.guarantee.specs.Undercuts.{NoUndercut}
 use Rattle.guarantee.specs.Tables.{stored, fill-length, fill-entry}
 use Rattle.guarantee.specs.Rows.{row-of-file}
-use Rattle.guarantee.specs.Choosing.{choice, Landed, at-giving-up, at-row}
+use Rattle.guarantee.specs.Choosing.{Landed, at-giving-up, at-row}
 use Rattle.guarantee.specs.Choosing.{choice-landed, pick-stays, order-wins, gives-up-dear}
 use Rattle.guarantee.specs.Scans.{Memory, chosen, Scanned, scanned}
 use Rattle.guarantee.specs.Bellman.{bellman-high, bellman-under, bellman-greatest, choice-bellman}

@@ -7,11 +7,10 @@ use lib.ListN.{getD}
 use Rattle.model.specs.Problem.{Problem}
 use Rattle.model.specs.Value.{byState}
 use Rattle.model.specs.Walk.{In, here, there, walk}
-use Rattle.model.specs.Rounds.{Machine, scanStart, scanOf, backup, walked}
+use Rattle.model.specs.Rounds.{Machine, scanStart, scanOf, backup, walked, choice}
 use Rattle.guarantee.specs.WellFormed.{WellFormed}
 use Rattle.guarantee.specs.Graphs.{in-nil}
 use Rattle.guarantee.specs.Scans.{Memory, chosen, scanned}
-use Rattle.guarantee.specs.Choosing.{choice}
 use Rattle.guarantee.specs.Sound.{Sound, scan-law, backup-sound}
 use Rattle.guarantee.specs.Backups.{Open, walk-opens, walked-sound}
 

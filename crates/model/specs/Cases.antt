@@ -20,7 +20,8 @@ use Rattle.model.specs.Questions.{estimateQuestion, itemQuestions, fileQ
 use Rattle.model.specs.Walk.{walk, visitState, visitOutcomes, next, leastCost, leastTo, pickCost}
 use Rattle.model.specs.Rounds.{beats, evaluateOn, settle, raiseOn, machineStart, fillTo, listTable}
 use Rattle.model.specs.Solution.{Tables, Solution, solved, solution, solutionOn, solutionOf, solveQuestions, checkedRunFrom}
-use Rattle.model.specs.Solution.{checkedRound, checkedBackups, checkedBackup, checkedScan, checkedScanFrom, checkedConsiderIf}
+use Rattle.model.specs.Solution.{checkedRound, checkedBackups, checkedBackup, checkedScan}
+use Rattle.model.specs.Traversal.{takenIf, othersFrom, traverse}
 use Rattle.model.specs.Solution.{checkedConsider, checkedConsiderOn, checkedEvaluate}
 use Rattle.model.specs.Audit.{Audited, accepted, audit, problemAudit, tableQuestions, unboundedState, strayState, slackState}
 use Rattle.model.specs.Audit.{pickValue}
@@ -335,8 +336,8 @@ unfolding fileQuestions layoutQuestions sectionQuestions endQuestion settingQues
     rowNumberQuestion rowQuestion rowObeys costObeys outcomeNumberQuestion outcomeQuestion outcomesObey estimateQuestion undercutState
     undercutRow first sumTo rowValue rowRemainder pickRemainder weightedSum totalWeight problemOf statesAt rowsAt outcomesAt fileEnd
     outcomesFrom lengthSeconds rateSeconds secondsOn u16At u32At
-    solution solutionOn solutionOf solveQuestions checkedRunFrom checkedRound checkedBackups checkedBackup checkedScan checkedScanFrom
-    checkedConsiderIf checkedConsider checkedConsiderOn checkedEvaluate beats evaluateOn settle raiseOn machineStart fillTo listTable
+    solution solutionOn solutionOf solveQuestions checkedRunFrom checkedRound checkedBackups checkedBackup checkedScan
+    traverse othersFrom takenIf checkedConsider checkedConsiderOn checkedEvaluate beats evaluateOn settle raiseOn machineStart fillTo listTable
     walk visitState visitOutcomes next leastCost leastTo pickCost
     audit problemAudit tableQuestions unboundedState strayState slackState pickValue
     opening report reports acceptedOf reportQuestions moved leadsTo moveSeconds hasOutcome wayTo waySeconds

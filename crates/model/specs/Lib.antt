@@ -8,6 +8,7 @@ pub mod Sections
 pub mod Questions
 pub mod Lookup
 pub mod Walk
+pub mod Traversal
 pub mod Rounds
 pub mod Solution
 pub mod Audit

@@ -5,9 +5,10 @@ use mathlib.Core.List.{List, [], _∷_, _++_}
 use lib.Dec.{leb, ltb, eqb}
 use lib.ListN.{getD, set, length, drop, replicate}
 use Rattle.model.specs.Limits.{giveUp, noPick, listEnd}
-use Rattle.model.specs.Problem.{Problem, giveUpCost, ownRow}
+use Rattle.model.specs.Problem.{Problem, giveUpCost}
 use Rattle.model.specs.Value.{rowValue, byState}
 use Rattle.model.specs.Walk.{walk}
+use Rattle.model.specs.Traversal.{traverse}
 
 -- a scan so far: best, the pick, the evaluations counted, and what each row remembers
 pub record Found : Type 0 where
@@ -43,19 +44,9 @@ considerOn false p v r a = evaluate (rowValue p v r) r a
 unfoldable pub consider : Problem → (ℕ → ℕ) → ℕ → Found → Found
 consider p v r a = considerOn (skipped r a) p v r a
 
--- a row is considered where the test says so
-unfoldable pub considerIf : Bool → Problem → (ℕ → ℕ) → ℕ → Found → Found
-considerIf true p v r a = consider p v r a
-considerIf false p v r a = a
-
--- "then the others in row order": k rows from r on, but for the pick before
-unfoldable pub scanFrom : Problem → (ℕ → ℕ) → ℕ → ℕ → ℕ → Found → Found
-scanFrom p v prev r zero a = a
-scanFrom p v prev r (suc k) a = scanFrom p v prev (suc r) k (considerIf (not (eqb r prev)) p v r a)
-
 -- "Take first the row picked before, if any, then the others in row order."
-unfoldable pub scan : Problem → (ℕ → ℕ) → ℕ → ℕ → Found → Found
-scan p v s prev a = scanFrom p v prev (p .firstRow s) (p .rowCount s) (considerIf (ownRow p s prev) p v prev a)
+abbrev pub scan : Problem → (ℕ → ℕ) → ℕ → ℕ → Found → Found
+scan p v s prev a = traverse (consider p v) p s prev a
 
 -- the tables, the last walk's list, the evaluations so far, and whether this round so far had a rise or a changed pick
 pub record Machine : Type 0 where
@@ -154,8 +145,31 @@ runOf p budget values picks remembered = runFrom p (p .tolerance) budget true 0 
 unfoldable pub listTable : ℕ → List ℕ → List ℕ → List ℕ
 listTable n list table = list ++ (replicate (n - length list) listEnd ++ drop n table)
 
--- Apart from the rounds, with no skipping and no memory: the Bellman backup of document 000's definition 4, with giving up as
--- one more choice: the least of 1000 × D and the values of the state's first k rows
+-- Apart from the rounds, with no skipping and no memory: where a scan ends, best and the pick
+pub record Chosen : Type 0 where
+  pub best : ℕ
+  pub pick : ℕ
+
+abbrev pub pickOf : ℕ → ℕ → Chosen
+pickOf best pick = record { best = best; pick = pick }
+
+abbrev pub chooseOn : Bool → ℕ → ℕ → Chosen → Chosen
+chooseOn true x r c = pickOf x r
+chooseOn false x r c = c
+
+-- row r, of value q r, is picked if it beats what is best so far
+unfoldable pub choose : (ℕ → ℕ) → ℕ → Chosen → Chosen
+choose q r c = chooseOn (beats (q r) (c .best) (c .pick)) (q r) r c
+
+abbrev pub givingUp : Problem → Chosen
+givingUp p = pickOf (giveUpCost p) giveUp
+
+-- the choice at s under a table v after the pick `prev`
+unfoldable pub choice : Problem → (ℕ → ℕ) → ℕ → ℕ → Chosen
+choice p v s prev = traverse (choose (rowValue p v)) p s prev (givingUp p)
+
+-- and its best apart from any order: the Bellman backup of document 000's definition 4, with giving up as one more choice: the least of
+-- 1000 × D and the values of the state's first k rows
 unfoldable pub leastValue : Problem → (ℕ → ℕ) → ℕ → ℕ → ℕ
 leastValue p v r zero = giveUpCost p
 leastValue p v r (suc k) = min (rowValue p v r) (leastValue p v (suc r) k)

@@ -1,16 +1,17 @@
 -- Solving a file: questions 12 to 14, the run with the check of question 14 at each evaluation, and what is handed back: the
 -- answer and the four lent tables as they are left.
 use Prim.Native.Nat.{ℕ, zero, suc}
-use mathlib.Core.Bool.{Bool, true, false, not}
+use mathlib.Core.Bool.{Bool, true, false}
 use mathlib.Core.List.{List, [], _∷_}
-use lib.Dec.{leb, ltb, eqb}
+use lib.Dec.{leb, ltb}
 use lib.ListN.{getD, length}
 use Rattle.model.specs.Limits.{maxBudget, valueBound}
-use Rattle.model.specs.Problem.{Problem, ownRow}
+use Rattle.model.specs.Problem.{Problem}
 use Rattle.model.specs.Sections.{problemOf}
 use Rattle.model.specs.Value.{rowValue, byState}
 use Rattle.model.specs.Questions.{Verdict, passes, fails, _then_, ask, fileQuestions}
 use Rattle.model.specs.Walk.{walk, leastCost}
+use Rattle.model.specs.Traversal.{traverse}
 use Rattle.model.specs.Rounds.{Found, Machine, Ending, evaluate, skipped, scanStart, settle, walked, machineStart, listTable}
 
 -- "At an evaluation: does the row value fit in 32 bits? 14 (row; tables as before that backup).": all is fine, or the value of a
@@ -38,18 +39,8 @@ checkedConsiderOn false p r m a =
 unfoldable pub checkedConsider : Problem → ℕ → Machine → Found → Checked Found
 checkedConsider p r m a = checkedConsiderOn (skipped r a) p r m a
 
-unfoldable pub checkedConsiderIf : Bool → Problem → ℕ → Machine → Found → Checked Found
-checkedConsiderIf true p r m a = checkedConsider p r m a
-checkedConsiderIf false p r m a = fine a
-
-unfoldable pub checkedScanFrom : Problem → Machine → ℕ → ℕ → ℕ → Found → Checked Found
-checkedScanFrom p m prev r zero a = fine a
-checkedScanFrom p m prev r (suc k) a =
-    onwards (checkedConsiderIf (not (eqb r prev)) p r m a) (checkedScanFrom p m prev (suc r) k)
-
 unfoldable pub checkedScan : Problem → Machine → ℕ → ℕ → Checked Found
-checkedScan p m s prev =
-    onwards (checkedConsiderIf (ownRow p s prev) p prev m (scanStart p m)) (checkedScanFrom p m prev (p .firstRow s) (p .rowCount s))
+checkedScan p m s prev = traverse (λ r a. onwards a (checkedConsider p r m)) p s prev (fine (scanStart p m))
 
 unfoldable pub checkedBackup : Problem → ℕ → ℕ → Machine → Checked Machine
 checkedBackup p e s m = onwards (checkedScan p m s (getD (m .picks) s 0)) (λ a. fine (settle e s m a))

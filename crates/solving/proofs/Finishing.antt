@@ -1,7 +1,7 @@
 -- From the questions to the answer: what questions 1 to 13 give, how the tables begin, and that a run's end is the solution.
 -- The check of question 14 never says no, so the solution is that of the run without it.
 use mathlib.Core.Path.{_≡_, refl, sym, _∙_, ap, subst}
-use Prim.Native.Nat.{ℕ, _<_}
+use Prim.Native.Nat.{ℕ, _-_, _<_}
 use native.Mathlib.Omega.{arith}
 use mathlib.Core.Bool.{Bool, true, false, not}
 use mathlib.Core.List.{List, []}
@@ -104,15 +104,20 @@ module _ {f index : List ℕ} {budget : ℕ} {t : Tables} {states rows : ℕ} {v
       }
 
   -- the run's end, once the walk list is ended
-  module _ {e : ℕ} {t″ : Tables} {d : Ended} (tolerance : e ≡ problemOf f .tolerance)
-      (ran : Ran (problemOf f) e budget (tables values′ picks′ remembered′ (t .walk-list)) t″ d) where
+  module _ {e : ℕ} {t″ : Tables} {from d : Ended} (tolerance : e ≡ problemOf f .tolerance)
+      (first : (from .rounds ≡ 0) × (from .evaluations ≡ 0) × (from .listed ≡ 0))
+      (ran : Ran (problemOf f) e budget from (tables values′ picks′ remembered′ (t .walk-list)) t″ d) where
     abbrev last : Machine
     last = machineWith t″ (take (d .listed) (t″ .walk-list)) (d .evaluations) (not (d .solved))
 
     run-is : runOf (problemOf f) budget (t .values) (t .picks) (t .remembered) ≡ endedAs (d .solved) (d .rounds) last
     run-is =
         ap (λ m. runFrom (problemOf f) (problemOf f .tolerance) budget true 0 m) (sym begun)
-        ∙ (ap (λ x. runFrom (problemOf f) x budget true 0 (machine values′ picks′ remembered′ [] 0 true)) (sym tolerance) ∙ ran .ends)
+        ∙ (ap (λ x. runFrom (problemOf f) x budget true 0 (machine values′ picks′ remembered′ [] 0 true)) (sym tolerance) ∙ went)
+      where
+        went
+            : runFrom (problemOf f) e budget true 0 (machine values′ picks′ remembered′ [] 0 true) ≡ endedAs (d .solved) (d .rounds) last
+        went = let z : budget - 0 ≡ budget = omega arith in rw z at (rw (first .0, first .1, first .2) at (ran .ends))
 
     solution-is : solution f budget t ≡ solutionOf (problemOf f) (t .walk-list) (fine (endedAs (d .solved) (d .rounds) last))
     solution-is =

@@ -18,7 +18,7 @@ use Rattle.model.specs.Value.{byState}
 use Rattle.model.specs.Walk.{Reached, walk, leastTo, leastCost}
 use Rattle.model.specs.Rounds.{Machine, backups, round, walked, Ending, runFrom}
 use Rattle.model.specs.Solution.{Tables, tables}
-use Rattle.guarantee.specs.Accepted.{Accepts}
+use Rattle.guarantee.specs.Accepted.{AcceptsWithin}
 use Rattle.guarantee.specs.Sound.{Sound}
 use Rattle.guarantee.specs.Backups.{walk-opens, round-sound, run-stops}
 use Rattle.guarantee.specs.Evaluations.{round-count}
@@ -28,7 +28,8 @@ use Rattle.walking.specs.Costs.{Costed}
 use Rattle.walking.specs.Walked.{Walked, walked-start, walked-costed, walked-least}
 use Rattle.backing.specs.Backable.{countBound, machine, Backable, Listed}
 use Rattle.solving.specs.declared.run.RoundDone.{RoundDone}
-use Rattle.solving.specs.Runs.{machineWith, endedAs, Runnable, Rounded}
+use Rattle.solving.specs.declared.run.Ended.{Ended}
+use Rattle.solving.specs.Runs.{machineWith, endedAs, Runnable, Rounded, Begun}
 
 -- what stays beyond a place stays beyond every later one
 later-beyond : (k n : ℕ) (l l′ : List ℕ) → k ≤ n → drop k l′ ≡ drop k l → drop n l′ ≡ drop n l
@@ -66,7 +67,7 @@ module _ {f index : List ℕ} {t : Tables} (h : Runnable f index t) where
 
     -- a round in which nothing moved: the picks are still those of the walk, and each reached one fits
     module _ (e count : ℕ) {values′ picks′ remembered′ : List ℕ} {count′ : ℕ} {moved′ : Bool}
-        (done : machine values′ picks′ remembered′ (take r list′) count′ moved′ ≡ backed e count) (tolerance : e ≡ p .tolerance)
+        (done : machine values′ picks′ remembered′ (take r list′) count′ moved′ ≡ backed e count)
         (quiet : moved′ ≡ false) where
       abbrev before : Machine
       before = machineWith t [] count true
@@ -81,10 +82,8 @@ module _ {f index : List ℕ} {t : Tables} (h : Runnable f index t) where
       picks-stay : picks′ ≡ t .picks
       picks-stay = ap (λ (x : Machine). x .picks) same ∙ still .picks
 
-      accepts : Accepts p (byState (t .values)) (byState (t .picks)) (leastCost p (byState (t .picks)))
-      accepts =
-          resting-accepted p (h .walkable .formed) before (h .sound)
-          (λ s i. rw tolerance at (still .rests s i))
+      accepts : AcceptsWithin p e (byState (t .values)) (byState (t .picks)) (leastCost p (byState (t .picks)))
+      accepts = resting-accepted p (h .walkable .formed) e before (h .sound) (still .rests)
 
       reached-fits
           : (s : ℕ) → Reached p (byState (t .picks)) s → p .goal s ≡ false
@@ -134,11 +133,13 @@ pub record RunLeft
   pub beyond : drop (problemOf f .states) (t .walk-list) ≡ drop (problemOf f .states) list₀
 
 pub run-starts
-    : {f index : List ℕ} {t : Tables} {e budget : ℕ} → Runnable f index t
-    → RunLeft f index e budget (runFrom (problemOf f) e budget true 0 (machineWith t [] 0 true)) (t .walk-list) t 0 0 0
-run-starts {f} {index} {t} {e} {budget} h =
-    let z : budget - 0 ≡ budget = omega arith in
-    record { runnable = h; within = omega arith; left = rw z refl; counted = omega arith; few = omega arith; beyond = refl }
+    : {f index : List ℕ} {t : Tables} {e budget : ℕ} {from : Ended} → Runnable f index t → Begun (problemOf f) budget from
+    → RunLeft f index e budget
+    (runFrom (problemOf f) e (budget - from .rounds) true (from .rounds)
+    (machineWith t (take (from .listed) (t .walk-list)) (from .evaluations) true))
+    (t .walk-list) t (from .rounds) (from .evaluations) (from .listed)
+run-starts h b =
+    record { runnable = h; within = b .within; left = refl; counted = b .counted; few = b .few; beyond = refl }
 
 one-round
     : (p : Problem) (e k j n : ℕ) (m : Machine) (w : Ending) → j ≡ suc k → runFrom p e j true n m ≡ w
@@ -183,6 +184,16 @@ module _ {f index : List ℕ} {e budget : ℕ} {w : Ending} {list₀ : List ℕ}
         (sym went)
         (round-sound (problemOf f) (h .runnable .walkable .formed) e this (h .runnable .sound))
 
+    next-counted : d .count ≤ maxRows * (rounds + 1)
+    next-counted =
+        omega (
+          arith,
+          h .counted,
+          h .runnable .walkable .formed .rows-high,
+          ap (λ (x : Machine). x .evaluations) went,
+          round-count (problemOf f) e (h .runnable .walkable .formed) this,
+        )
+
     pub run-goes-on
         : d .moved ≡ true → length (t′ .walk-list) ≡ length (t .walk-list)
         → RunLeft f index e budget w list₀ t′ (rounds + 1) (d .count) (d .listed)
@@ -196,17 +207,15 @@ module _ {f index : List ℕ} {e budget : ℕ} {w : Ending} {list₀ : List ℕ}
               };
           within = omega arith;
           left = rw moved at went-on;
-          counted =
-              omega (
-                arith,
-                h .counted,
-                h .runnable .walkable .formed .rows-high,
-                ap (λ (x : Machine). x .evaluations) went,
-                round-count (problemOf f) e (h .runnable .walkable .formed) this,
-              );
+          counted = next-counted;
           few = r .few;
           beyond = r .beyond ∙ h .beyond;
         }
+
+    -- and where it ends, another may go on
+    pub run-stands : (ended : Ended) → ended .rounds ≡ rounds + 1 → ended .evaluations ≡ d .count → ended .listed ≡ d .listed
+        → Begun (problemOf f) budget ended
+    run-stands ended n c k = record { within = omega (arith, n); counted = omega (arith, n, c, next-counted); few = omega (arith, k, r .few) }
 
     pub run-solved
         : d .moved ≡ false → w ≡ endedAs true (rounds + 1) (machineWith t′ (take (d .listed) (t′ .walk-list)) (d .count) false)

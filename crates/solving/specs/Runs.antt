@@ -1,10 +1,11 @@
 -- What a round and a run are asked, and what they leave: the model's round, and how the model's run ends.
 -- The walk list is its first entries, as many as the last walk listed.
 use mathlib.Core.Path.{_≡_}
-use Prim.Native.Nat.{ℕ, _≤_}
+use Prim.Native.Nat.{ℕ, _-_, _*_, _≤_}
 use mathlib.Core.Bool.{Bool, true, false, not}
-use mathlib.Core.List.{List, []}
+use mathlib.Core.List.{List}
 use lib.ListN.{length, take, drop}
+use Rattle.model.specs.Limits.{maxRows}
 use Rattle.model.specs.Problem.{Problem, giveUpCost}
 use Rattle.model.specs.Sections.{problemOf}
 use Rattle.model.specs.Value.{byState}
@@ -33,9 +34,8 @@ pub record Runnable (f index : List ℕ) (t : Tables) : Type 0 where
   pub list-long : problemOf f .states ≤ length (t .walk-list)
 
 -- the numbers of the problem that a round is handed
-pub record Given (p : Problem) (n e cost : ℕ) : Type 0 where
+pub record Given (p : Problem) (n cost : ℕ) : Type 0 where
   pub states : n ≡ p .states
-  pub tolerance : e ≡ p .tolerance
   pub give : cost ≡ giveUpCost p
 
 -- a round done: the tables, the first `listed` entries of the walk list and the counts are those of the model's round;
@@ -50,14 +50,22 @@ pub record Rounded (p : Problem) (e : ℕ) (t : Tables) (count : ℕ) (t′ : Ta
   pub fine : r .over ≡ false
   pub no-row : r .row ≡ 0
 
--- a run done: how it ended is how the model's run ends; where it is solved C is that of the picks as they are left, else 0; no value
--- was too large
-pub record Ran (p : Problem) (e budget : ℕ) (t t′ : Tables) (r : Ended) : Type 0 where
-  pub ends : runFrom p e budget true 0 (machineWith t [] 0 true)
+-- where a run stands: what a further round adds to its counts has room, and its list is no longer than the states
+pub record Begun (p : Problem) (budget : ℕ) (r : Ended) : Type 0 where
+  pub within : r .rounds ≤ budget
+  pub counted : r .evaluations ≤ maxRows * r .rounds
+  pub few : r .listed ≤ p .states
+
+-- a run done, from where another stood: how it ended is how the model's run ends from there; where it is solved C is that of the picks as
+-- they are left, else 0; no value was too large
+pub record Ran (p : Problem) (e budget : ℕ) (from : Ended) (t t′ : Tables) (r : Ended) : Type 0 where
+  pub ends
+      : runFrom p e (budget - from .rounds) true (from .rounds)
+      (machineWith t (take (from .listed) (t .walk-list)) (from .evaluations) true)
       ≡ endedAs (r .solved) (r .rounds) (machineWith t′ (take (r .listed) (t′ .walk-list)) (r .evaluations) (not (r .solved)))
+  pub stands : Begun p budget r
   pub least : r .solved ≡ true → r .least ≡ leastCost p (byState (t′ .picks))
   pub no-least : r .solved ≡ false → r .least ≡ 0
-  pub few : r .listed ≤ p .states
   pub beyond : drop (p .states) (t′ .walk-list) ≡ drop (p .states) (t .walk-list)
   pub fine : r .over ≡ false
   pub no-row : r .row ≡ 0

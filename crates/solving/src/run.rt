@@ -6,6 +6,7 @@ use backing::backup::backups;
 use reading::index::INDEX;
 use walking::least::least_cost;
 use walking::walk::walk;
+ghost use mathlib.Core.Path.{_≡_};
 ghost use mathlib.Core.Bool.{true};
 ghost use mathlib.Core.List.{[]};
 ghost use Prim.Native.Nat.{_≤_, _<_};
@@ -14,7 +15,7 @@ ghost use Rattle.model.specs.Sections.{problemOf};
 ghost use Rattle.model.specs.Solution.{tables};
 ghost use Rattle.model.specs.Rounds;
 ghost use Rattle.backing.specs.Backable.{countBound, machine};
-ghost use Rattle.solving.specs.Runs.{Runnable, Given, Rounded, Ran};
+ghost use Rattle.solving.specs.Runs.{Runnable, Given, Rounded, Begun, Ran};
 
 // A round done: as a tally, the length of its walk list, and C where nothing moved, else 0.
 pub struct RoundDone {
@@ -42,7 +43,7 @@ fn round(
     count: u64,
 ) -> RoundDone
     requires { ⌜ Runnable (now file) (now index) (tables (now values) (now picks) (now remembered) (now list))
-        × Given (problemOf (now file)) states tolerance give
+        × Given (problemOf (now file)) states give
         × (Rounds.round (problemOf (now file)) tolerance (machine (now values) (now picks) (now remembered) [] count true) .evaluations
         < countBound) ⌝ }
     ensures { λ r.
@@ -98,7 +99,22 @@ pub struct Ended {
     pub row: u32,
 }
 
-// Runs at most `budget` rounds.
+// A run that has not begun.
+pub fn unbegun() -> Ended
+    ensures { λ r. ⌜ (r .rounds ≡ 0) × (r .evaluations ≡ 0) × (r .listed ≡ 0) ⌝ }
+{
+    Ended {
+        rounds: 0,
+        evaluations: 0,
+        listed: 0,
+        least: 0,
+        solved: false,
+        over: false,
+        row: 0,
+    }
+}
+
+// Runs from where a run stands until `budget` rounds are done in all.
 pub fn run(
     file: &[u8],
     index: &[u32; INDEX],
@@ -110,19 +126,20 @@ pub fn run(
     tolerance: u32,
     give: u32,
     budget: u64,
+    from: Ended,
 ) -> Ended
     requires { ⌜ Runnable (now file) (now index) (tables (now values) (now picks) (now remembered) (now list))
-        × Given (problemOf (now file)) states tolerance give × (budget ≤ maxBudget) ⌝ }
+        × Given (problemOf (now file)) states give × (budget ≤ maxBudget) × Begun (problemOf (now file)) budget from ⌝ }
     ensures { λ r.
         ⌜ Ran
-        (problemOf (now (file .entry))) tolerance budget
+        (problemOf (now (file .entry))) tolerance budget from
         (tables (now (values .entry)) (now (picks .entry)) (now (remembered .entry)) (now (list .entry)))
         (tables (now (values .exit)) (now (picks .exit)) (now (remembered .exit)) (now (list .exit))) r ⌝ }
 {
     let mut log = [0u32; LOG];
-    let mut rounds: u64 = 0;
-    let mut count: u64 = 0;
-    let mut listed: usize = 0;
+    let mut rounds = from.rounds;
+    let mut count = from.evaluations;
+    let mut listed = from.listed;
     while rounds < budget {
         let r = round(
             file,

@@ -6,6 +6,7 @@ use crate::lent::remember;
 use crate::lent::solve_questions;
 use crate::run::Ended;
 use crate::run::run;
+use crate::run::unbegun;
 use checking::questions::questions;
 use model::FileAnswer;
 use model::SolveAnswer;
@@ -86,6 +87,7 @@ fn solve_ready(
         set.tolerance,
         give,
         budget,
+        unbegun(),
     );
     pad(list, end.listed, states);
     answer(end)

@@ -3,10 +3,7 @@
 use mathlib.Core.Path.{_≡_, refl, _∙_}
 use Prim.Native.Nat.{_-_}
 use lib.ListN.{length}
-use Rattle.model.specs.Sections.{problemOf}
-use Rattle.model.specs.Value.{byState}
-use Rattle.model.specs.Rounds.{scanFrom}
-use Rattle.backing.specs.Backable.{found}
+use Rattle.backing.specs.Backable.{found, othersUnder}
 use Rattle.backing.proofs.Scanning.{ScanLeft, left-passed, left-taken, left-room, left-done}
 use native.Mathlib.Omega.{arith}
 use Rattle.backing.proofs.scan.others.Statement.{statement}
@@ -15,7 +12,7 @@ use Rattle.backing.proofs.scan.others.Tie as tie
 abbrev Inv-loop : tie.InvT-loop
 Inv-loop file index values remembered₀ log₀ first end prev b₀ next₀ remembered log b next =
     ScanLeft file index values prev end
-    (scanFrom (problemOf file) (byState values) prev first (end - first) (found (b₀ .best) (b₀ .pick) (b₀ .count) remembered₀))
+    (othersUnder file values prev first (end - first) (found (b₀ .best) (b₀ .pick) (b₀ .count) remembered₀))
     (found (b .best) (b .pick) (b .count) remembered) (b .below) (b .over) next
     × (length remembered ≡ length remembered₀)
 

@@ -28,9 +28,9 @@ least-cost-requires c κs =
     let quiet = not-true _ (c .before .before .before .if1 .taken) in
     let h = c .before .before .before .before .before .before .before .before .before .before .before .before .before .before .before .before .before .before .before .before .before .before .before .before .before .before .before .pre .0 in (
       h .walkable,
-      quiet-costed h (c .before .before .before .before .before .before .before .before .before .before .before .before .before .before .before .before .before .before .before .walk .ensures) _ _ (c .before .before .before .before .before .before .before .before .before .before .before .backups .ensures .0) (c .before .before .before .before .before .before .before .before .before .before .before .before .before .before .before .before .before .before .before .before .before .before .before .before .before .before .before .pre .1 .tolerance) quiet,
+      quiet-costed h (c .before .before .before .before .before .before .before .before .before .before .before .before .before .before .before .before .before .before .before .walk .ensures) _ _ (c .before .before .before .before .before .before .before .before .before .before .before .backups .ensures .0) quiet,
       c .before .before .before .before .before .before .before .before .before .before .before .before .before .before .before .before .before .before .before .before .before .before .before .before .before .before .before .pre .1 .states,
-      quiet-start h (c .before .before .before .before .before .before .before .before .before .before .before .before .before .before .before .before .before .before .before .walk .ensures) _ _ (c .before .before .before .before .before .before .before .before .before .before .before .backups .ensures .0) (c .before .before .before .before .before .before .before .before .before .before .before .before .before .before .before .before .before .before .before .before .before .before .before .before .before .before .before .pre .1 .tolerance) quiet,
+      quiet-start h (c .before .before .before .before .before .before .before .before .before .before .before .before .before .before .before .before .before .before .before .walk .ensures) _ _ (c .before .before .before .before .before .before .before .before .before .before .before .backups .ensures .0) quiet,
     )
 
 same-length : tie.Need-same-length
@@ -50,7 +50,7 @@ returns c =
     let h = c .before .before .before .before .before .before .before .before .before .before .before .before .before .before .before .before .before .before .before .before .before .before .before .before .before .before .before .before .pre .0 in
     round-done h (c .before .before .before .before .before .before .before .before .before .before .before .before .before .before .before .before .before .before .before .before .walk .ensures) _ _ _ refl (c .before .before .before .before .before .before .before .before .before .before .before .before .backups .ensures .0)
     (λ quiet.
-    quiet-least h (c .before .before .before .before .before .before .before .before .before .before .before .before .before .before .before .before .before .before .before .before .walk .ensures) _ _ (c .before .before .before .before .before .before .before .before .before .before .before .before .backups .ensures .0) (c .before .before .before .before .before .before .before .before .before .before .before .before .before .before .before .before .before .before .before .before .before .before .before .before .before .before .before .before .pre .1 .tolerance) quiet _ _
+    quiet-least h (c .before .before .before .before .before .before .before .before .before .before .before .before .before .before .before .before .before .before .before .before .walk .ensures) _ _ (c .before .before .before .before .before .before .before .before .before .before .before .before .backups .ensures .0) quiet _ _
     (c .before .before .before .before .before .before .before .before .before .before .before .before .before .before .before .before .before .before .before .before .before .before .before .before .before .before .before .before .pre .1 .states) (c .least-cost .ensures))
     (λ moved. absurd (true≢false (sym moved ∙ not-true _ (c .before .before .before .before .if1 .taken))))
     (c .before .before .before .before .before .before .before .before .before .before .before .before .backups .ensures .1) (c .before .before .before .before .before .before .before .before .before .before .before .before .backups .ensures .2)

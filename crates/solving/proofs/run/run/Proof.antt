@@ -2,15 +2,14 @@
 -- Made by `places make` from answers/run/run.ans: edit that file, and not this one.
 use mathlib.Core.Path.{_≡_, refl, sym, _∙_}
 use mathlib.Core.Bool.{true, true≢false}
-use mathlib.Core.List.{[]}
 use borrow.Author.Tests.{not-true, not-false}
 use Prim.Native.Nat.{_-_}
-use lib.ListN.{length}
+use lib.ListN.{length, take}
 use Rattle.model.specs.Sections.{problemOf}
 use Rattle.model.specs.Rounds.{runFrom}
 use Rattle.model.specs.Solution.{tables}
 use Rattle.backing.specs.Backable.{machine}
-use Rattle.solving.proofs.Running.{RunLeft, run-starts, next-round-room, run-goes-on, run-solved, run-out-of-budget}
+use Rattle.solving.proofs.Running.{RunLeft, run-starts, next-round-room, run-goes-on, run-stands, run-solved, run-out-of-budget}
 use native.Mathlib.Omega.{arith}
 use Rattle.solving.proofs.run.run.Statement.{statement}
 use Rattle.solving.proofs.run.run.Tie as tie
@@ -20,7 +19,8 @@ Inv-loop
     file index values₀ picks₀ remembered₀ list₀ states tolerance give budget log₀ rounds₀ count₀ listed₀
     values picks remembered list log rounds count listed =
     RunLeft file index tolerance budget
-    (runFrom (problemOf file) tolerance budget true 0 (machine values₀ picks₀ remembered₀ [] 0 true))
+    (runFrom (problemOf file) tolerance (budget - rounds₀) true rounds₀
+    (machine values₀ picks₀ remembered₀ (take listed₀ list₀) count₀ true))
     list₀ (tables values picks remembered list) rounds count listed
     × (length values ≡ length values₀) × (length picks ≡ length picks₀)
     × (length remembered ≡ length remembered₀) × (length list ≡ length list₀)
@@ -32,7 +32,7 @@ abbrev μ-loop : tie.MeasureT-loop
     budget - rounds
 
 loop-holds : tie.Need-loop-holds Inv-loop μ-loop
-loop-holds c = (run-starts (c .before .before .before .before .before .pre .0), refl, refl, refl, refl)
+loop-holds c = (run-starts (c .before .before .before .before .before .pre .0) (c .before .before .before .before .before .pre .3), refl, refl, refl, refl)
 
 round-requires : tie.Need-round-requires Inv-loop μ-loop
 round-requires c κs = (
@@ -78,7 +78,7 @@ returns-2 c =
           (not-true _ (c .if2 .taken));
       least = λ _. c .before .before .before .before .before .before .before .before .before .before .before .round .ensures .least (not-true _ (c .if2 .taken));
       no-least = λ q. absurd (true≢false q);
-      few = c .before .before .before .before .before .before .before .before .before .before .before .round .ensures .few;
+      stands = run-stands (c .before .before .before .before .before .before .before .before .before .before .before .before .before .before .before .before .before .before .loop .inv .0) (c .before .before .before .before .before .before .before .before .before .before .before .round .ensures) (c .before .before .before .before .before .before .before .before .before .before .before .before .before .before .before .before .before .loop-test .taken) _ refl refl refl;
       beyond = c .before .before .before .before .before .before .before .before .before .before .before .round .ensures .beyond ∙ (c .before .before .before .before .before .before .before .before .before .before .before .before .before .before .before .before .before .before .loop .inv .0 .beyond);
       fine = refl;
       no-row = refl;
@@ -115,7 +115,7 @@ returns-3 c =
       ends = run-out-of-budget (c .before .loop .inv .0) (c .loop-test .left);
       least = λ q. absurd (true≢false (sym q));
       no-least = λ _. refl;
-      few = c .before .loop .inv .0 .few;
+      stands = record { within = c .before .loop .inv .0 .within; counted = c .before .loop .inv .0 .counted; few = c .before .loop .inv .0 .few };
       beyond = c .before .loop .inv .0 .beyond;
       fine = refl;
       no-row = refl;
