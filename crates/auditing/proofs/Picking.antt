@@ -1,9 +1,9 @@
 -- A state that is reached and no goal, and its pick: what the index says of it is what the model says, and what it costs
 -- is known once question 18 has said yes.
-use mathlib.Core.Path.{_≡_, refl, sym}
-use Prim.Native.Nat.{ℕ, _+_, _≤_, _<_}
+use mathlib.Core.Path.{_≡_, refl}
+use Prim.Native.Nat.{ℕ, _≤_, _<_}
 use native.Mathlib.Omega.{arith}
-use mathlib.Core.Bool.{Bool, true, false, _||_, not}
+use mathlib.Core.Bool.{true, false, _||_, not}
 use mathlib.Core.List.{List}
 use mathlib.Core.Logic.{_⊎_, inl, inr, ⊎-elim}
 use lib.Dec.{eqb}
@@ -14,9 +14,9 @@ use Rattle.model.specs.Limits.{giveUp}
 use Rattle.model.specs.Problem.{ownRow}
 use Rattle.model.specs.Sections.{problemOf}
 use Rattle.model.specs.Value.{byState}
-use Rattle.guarantee.specs.Searches.{and-left, and-right, each-yes, first-at, implied, or-cases}
+use Rattle.guarantee.specs.Searches.{and-left, and-right, each-yes, first-at, implied, or-clear, or-cases}
 use Rattle.guarantee.specs.Walks.{own-row}
-use Rattle.reading.specs.RowParts.{rows-begin, rows-end}
+use Rattle.reading.specs.RowParts.{own-at}
 use Rattle.walking.specs.Costs.{Costed}
 use Rattle.walking.specs.Walkable.{Walkable}
 use Rattle.auditing.specs.StateTests.{fitting, fitsAt, closeAt}
@@ -24,7 +24,7 @@ use Rattle.auditing.specs.StateTests.{fitting, fitsAt, closeAt}
 -- the index gives a state's own rows
 pub fitting-own : {f index : List ℕ} → Walkable f index → (s : ℕ) → s < problemOf f .states → (pick : ℕ)
     → fitting index pick s ≡ (eqb pick giveUp || ownRow (problemOf f) s pick)
-fitting-own {f} {index} w s state pick = rw (rows-begin f index (w .ready) s state, rows-end f index (w .ready) s state) refl
+fitting-own {f} {index} w s state pick = rw (own-at f index (w .ready) s state pick) refl
 
 -- what a pick at such a state costs is known
 pub open-costed : {f picks marks : List ℕ} → Costed f picks marks → (s : ℕ) → s < problemOf f .states
@@ -63,12 +63,8 @@ module _ {f picks marks : List ℕ} (costed : Costed f picks marks) (values : Li
   unfolding slackState
   slack-open =
       let test = closeAt (problemOf f) (byState values) (byState picks) marks in
-      opened (open-state (problemOf f) marks slack) _
+      or-clear (open-state (problemOf f) marks slack) _
       (rw (← found) at (first-at test 0 (problemOf f .states) (omega (arith, found))))
-    where
-      opened : (a b : Bool) → (not a || b) ≡ false → a ≡ true
-      opened true b h = refl
-      opened false b h = sym h
 
   pub slack-pick : (getD picks slack 0 ≡ giveUp) ⊎ (getD picks slack 0 < problemOf f .rows)
   slack-pick = open-costed costed slack no slack-open

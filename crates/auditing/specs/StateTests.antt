@@ -1,10 +1,10 @@
 -- The tests of questions 16, 18 and 19 at one state, and these questions in order.
 use Prim.Native.Nat.{ℕ, _+_, _-_}
-use mathlib.Core.Bool.{Bool, _&&_, _||_, not}
+use mathlib.Core.Bool.{Bool, _||_, not}
 use mathlib.Core.List.{List}
-use lib.Dec.{leb, ltb, eqb}
+use lib.Dec.{leb, eqb}
 use lib.IntN.{pos, subℕ}
-use lib.ListN.{getD}
+use Rattle.reading.specs.Tests.{ownAt}
 use Rattle.model.specs.Limits.{giveUp}
 use Rattle.model.specs.Problem.{Problem, giveUpCost, ownRow}
 use Rattle.model.specs.Walk.{walk, leastCost}
@@ -24,7 +24,7 @@ closeAt p v picks marks = λ s. not (open-state p marks s) || leb (pickValue p v
 
 -- giving up, or between the state's first row and the next state's by the index
 abbrev pub fitting : List ℕ → ℕ → ℕ → Bool
-fitting index pick s = eqb pick giveUp || (leb (getD index s 0) pick && ltb pick (getD index (s + 1) 0))
+fitting index pick s = eqb pick giveUp || ownAt index s pick
 
 -- questions 18 and 19 in order, and then the least cost
 abbrev pub pickQuestions : Problem → (ℕ → ℕ) → (ℕ → ℕ) → Audited

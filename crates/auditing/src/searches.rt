@@ -1,6 +1,7 @@
 // Questions 16, 18 and 19 of each state in order, and the value of a pick.
 use model::GIVE_UP;
 use reading::index::INDEX;
+use reading::index::is_own;
 use reading::states::is_goal;
 use reading::value::row_value;
 use walking::walk::MARKS;
@@ -68,8 +69,7 @@ fn own_or_given(index: &[u32; INDEX], pick: u16, s: usize) -> bool
     if pick == GIVE_UP {
         return true;
     }
-    let r = pick as u32;
-    index[s] <= r && r < index[s + 1]
+    is_own(index, s, pick as u32)
 }
 
 // Whether the pick at s gives up or is a row of s, where s is reached and no goal.

@@ -1,7 +1,7 @@
 -- Laws of the backups of a round, one for each event of the code: a backup done, and the loop along the walk list, in which the
 -- backups that are left give the same as all. Every backup keeps the tables sound, so that the next one may be made.
 use mathlib.Core.Path.{_≡_, refl, sym, _∙_, ap}
-use Prim.Native.Nat.{ℕ, zero, suc, _+_, _≤_, _<_}
+use Prim.Native.Nat.{ℕ, _+_, _≤_, _<_}
 use native.Mathlib.Numerals.{add-one}
 use native.Mathlib.Omega.{arith}
 use mathlib.Core.Bool.{Bool, false, _||_, not}
@@ -13,8 +13,8 @@ use Rattle.model.specs.Limits.{giveUp}
 use Rattle.model.specs.Problem.{Problem, giveUpCost}
 use Rattle.model.specs.Sections.{problemOf}
 use Rattle.model.specs.Value.{byState}
-use Rattle.model.specs.Walk.{In, here, there}
 use Rattle.model.specs.Rounds.{Found, Machine, scan, pickOf, raiseOn, settle, scanOf, backup, backups}
+use Rattle.guarantee.specs.Graphs.{in-place}
 use Rattle.guarantee.specs.Sound.{Sound, evaluation-fits, backup-sound}
 use Rattle.guarantee.specs.Backups.{Open}
 use Rattle.guarantee.specs.Evaluations.{backups-count}
@@ -64,12 +64,6 @@ module _ {f index values picks remembered : List ℕ} (h : Backable f index valu
 pub given-going : (give : ℕ) → Going give (give + 1) giveUp false
 given-going give = record { fine = refl; tie = sym (threshold-giving-up (pickOf give giveUp) refl) }
 
--- an entry of a list is one of the list
-in-at : (l : List ℕ) (i : ℕ) → i < length l → In (getD l i 0) l
-in-at [] i h = absurd (omega arith)
-in-at (a ∷ l) zero h = here
-in-at (a ∷ l) (suc i) h = there (in-at l i (omega arith))
-
 -- the loop along a walk list: what is left of the backups, from the i-th on, gives w
 pub record BackLeft (f index list : List ℕ) (n e : ℕ) (w m : Machine) (over : Bool) (i : ℕ) : Type 0 where
   pub backable : Backable f index (m .values) (m .picks) (m .remembered)
@@ -97,7 +91,7 @@ module _ {f index list : List ℕ} {n e : ℕ} {w m : Machine} {over : Bool} {i 
 
   pub next-open : i < n → Open (problemOf f) (getD list i 0)
   unfolding L
-  next-open l = h .listed .opens _ (rw (at l) at (in-at L i (omega (arith, long))))
+  next-open l = h .listed .opens _ (rw (at l) at (in-place L i (omega (arith, long))))
 
   next-left : i < n → backups (problemOf f) e (drop (i + 1) L) (backup (problemOf f) e (getD list i 0) m) ≡ w
   unfolding L backups

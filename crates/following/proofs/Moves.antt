@@ -2,9 +2,9 @@
 -- it. The definitions are opened here; the answers cite.
 use mathlib.Core.Path.{_≡_, refl, sym, _∙_, ap}
 use Prim.Native.Nat.{ℕ, _+_, _≤_, _<_}
-use mathlib.Core.Bool.{Bool, true, false, _&&_, not}
+use mathlib.Core.Bool.{Bool, true, false, not}
 use mathlib.Core.List.{List}
-use lib.Dec.{leb, ltb, eqb}
+use lib.Dec.{ltb, eqb}
 use lib.IntN.{ℤ, pos}
 use lib.ListN.{getD, length}
 use borrow.Author.Tests.{le-ltb, lt-ltb, eq-eqb, ne-eqb}
@@ -24,7 +24,8 @@ use Rattle.model.specs.declared.Follower.{Follower}
 use Rattle.guarantee.specs.Occurs.{asked-occurs, asked-moves, asked-seconds}
 use Rattle.guarantee.specs.Occurs.{occurs-state as state-in, occurs-row as row-in, occurs-outcome as outcome-in}
 use Rattle.guarantee.specs.Walks.{own-row}
-use Rattle.reading.specs.RowParts.{rows-begin, rows-end, secondsAt, index-seconds}
+use Rattle.reading.specs.RowParts.{own-at, secondsAt, index-seconds}
+use Rattle.reading.specs.Tests.{ownAt}
 use Rattle.following.specs.Asked.{Followable, Occurring}
 
 -- question 20
@@ -58,9 +59,9 @@ module _ {f index picks : List ℕ} (h : Followable f index picks) (s o : ℕ) w
     given-occurs g = rw (lt-ltb s (problemOf f .states) l, eq-eqb pick giveUp g) refl
 
     -- what the index says of the pick
-    module _ {own : Bool} (e : own ≡ (leb (getD index s 0) pick && ltb pick (getD index (s + 1) 0))) where
+    module _ {own : Bool} (e : own ≡ ownAt index s pick) where
       pub index-own : own ≡ ownRow (problemOf f) s pick
-      index-own = e ∙ rw (rows-begin f index (h .walkable .ready) s l, rows-end f index (h .walkable .ready) s l) refl
+      index-own = e ∙ own-at f index (h .walkable .ready) s l pick
 
       pub own-there : own ≡ true → pick < problemOf f .rows
       own-there t = own-row (problemOf f) (h .walkable .formed) s pick l (sym index-own ∙ t)

@@ -6,6 +6,7 @@ use model::GIVE_UP;
 use model::MAX_MOVES;
 use model::MAX_SPENT;
 use reading::index::INDEX;
+use reading::index::is_own;
 use reading::layout::layout_of;
 use reading::outcomes::outcome_count;
 use reading::outcomes::seconds_of;
@@ -15,13 +16,12 @@ use reading::states::is_goal;
 ghost use mathlib.Core.Path.{_≡_};
 ghost use mathlib.Core.Bool.{_&&_, not};
 ghost use Prim.Native.Nat.{ℕ, _+_, _≤_, _<_};
-ghost use lib.Dec.{leb, ltb};
 ghost use lib.IntN.{pos};
 ghost use lib.ListN.{getD, length};
 ghost use Rattle.model.specs.Audit.{accepted};
 ghost use Rattle.model.specs.Following.{atEnd, inShift, mayOccur, moved as model-moved};
 ghost use Rattle.model.specs.Following.{refused as report-refused, reportQuestions, follow};
-ghost use Rattle.model.specs.Limits.{maxMoves, maxSpent, maxStates};
+ghost use Rattle.model.specs.Limits.{maxMoves, maxSpent};
 ghost use Rattle.model.specs.Promises.{Answered};
 ghost use Rattle.model.specs.Questions.{passes, layoutQuestions};
 ghost use Rattle.model.specs.Sections.{problemOf};
@@ -50,14 +50,6 @@ fn is_in_shift(w: Follower) -> bool
     ensures { λ r. ⌜ r ≡ inShift w ⌝ }
 {
     w.moves < MAX_MOVES && w.seconds <= MAX_SPENT
-}
-
-// Whether row r is one of state s's own.
-fn is_own(index: &[u32; INDEX], s: usize, r: u32) -> bool
-    requires { ⌜ s < maxStates ⌝ }
-    ensures { λ b. ⌜ b ≡ (leb (getD (now (index .entry)) s 0) r && ltb r (getD (now (index .entry)) (s + 1) 0)) ⌝ }
-{
-    index[s] <= r && r < index[s + 1]
 }
 
 // Question 22 says yes: s is one of the file's n states, its pick is its own, and the pick has such an outcome.

@@ -3,7 +3,7 @@
 use mathlib.Core.Path.{_≡_, refl, _∙_, ap, ap₂}
 use Prim.Native.Nat.{ℕ, zero, suc, _+_, _-_, _≤_, _<_}
 use native.Mathlib.Omega.{arith}
-use mathlib.Core.Bool.{Bool, true, false, _||_, not, true≢false}
+use mathlib.Core.Bool.{Bool, true, false, _||_, not}
 use mathlib.Core.List.{List}
 use lib.Dec.{leb, eqb}
 use lib.ListN.{getD}
@@ -18,7 +18,7 @@ use Rattle.model.specs.Questions.{undercutRow, undercutState}
 use Rattle.model.specs.Audit.{Audited, accepted, refused, orElse, pickValue, pickValueOn, boundedOn, unboundedState, open-state}
 use Rattle.model.specs.Audit.{ownPick, strayState, slackState, tableQuestions}
 use Rattle.guarantee.specs.WellFormed.{WellFormed}
-use Rattle.guarantee.specs.Searches.{first-same, first-at, each-yes, implied}
+use Rattle.guarantee.specs.Searches.{or-clear, first-same, first-at, each-yes, implied}
 use Rattle.guarantee.specs.Values.{rowValue-same-states}
 use Rattle.guarantee.specs.Walks.{rows-within, own-row, reached-marked, walk-same}
 use Rattle.guarantee.specs.Excess.{undercut-own}
@@ -37,11 +37,7 @@ slack-open
     → open-state p marks (slackState p v picks marks) ≡ true
 unfolding slackState
 slack-open p v picks marks l =
-    said (open-state p marks (slackState p v picks marks)) _ (first-at (near p v picks marks) 0 (p .states) (omega arith))
-  where
-    said : (a b : Bool) → (not a || b) ≡ false → a ≡ true
-    said true b e = refl
-    said false b e = absurd (true≢false e)
+    or-clear (open-state p marks (slackState p v picks marks)) _ (first-at (near p v picks marks) 0 (p .states) (omega arith))
 
 -- Two problems with two pairs of tables.
 

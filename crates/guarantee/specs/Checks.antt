@@ -1,8 +1,7 @@
 -- Question 14 is never answered no: in a sound machine the checked scan, backup, round and run are those of Rounds.antt.
 -- Every row value fits while the machine is sound, and every backup keeps it sound; by induction on list and budget.
 use mathlib.Core.Path.{_≡_, refl}
-use Prim.Native.Nat.{ℕ, zero, suc, _+_, _≤_, _<_}
-use native.Mathlib.Omega.{arith}
+use Prim.Native.Nat.{ℕ, zero, suc, _<_}
 use mathlib.Core.Bool.{Bool, true, false}
 use mathlib.Core.List.{List, [], _∷_}
 use lib.ListN.{getD}

@@ -1,23 +1,22 @@
 -- The choice of one backup depends on the row values alone, and after its own pick it is the same choice again: no row beats where it
 -- ends. The rule for ties stands in `beats-below` and the three laws of `threshold` only.
 use mathlib.Core.Path.{_≡_, refl, sym, _∙_, ap}
-use Prim.Native.Nat.{ℕ, zero, suc, _+_, _≤_, _<_}
+use Prim.Native.Nat.{ℕ, suc, _+_, _≤_, _<_}
 use native.Mathlib.Decide.{ℕ-discrete}
 use native.Mathlib.Nat.{eq-or-lt-of-le}
 use native.Mathlib.Omega.{arith}
-use mathlib.Core.Bool.{Bool, true, false, _&&_, _||_, not, true≢false}
+use mathlib.Core.Bool.{Bool, true, false, _&&_, _||_, true≢false}
 use mathlib.Core.Logic.{_⊎_, inl, inr, ⊎-elim}
 use lib.Dec.{ltb, eqb}
-use borrow.Author.Tests.{ltb-true, ltb-false, lt-ltb, le-ltb, eqb-true, eq-eqb, ne-eqb}
+use borrow.Author.Tests.{ltb-true, ltb-false, lt-ltb, le-ltb, eq-eqb, ne-eqb}
 use Rattle.model.specs.Limits.{giveUp}
 use Rattle.model.specs.Problem.{Problem, giveUpCost, endRow, ownRow}
 use Rattle.model.specs.Value.{rowValue}
 use Rattle.model.specs.Traversal.{traverse}
 use Rattle.model.specs.Rounds.{beats, Chosen, pickOf, chooseOn, choose, givingUp, choice}
 use Rattle.guarantee.specs.WellFormed.{WellFormed}
-use Rattle.guarantee.specs.Walks.{rows-within}
 use Rattle.guarantee.specs.Traversals.{traverse-along, traverse-keeps, traverse-every, traverse-idle}
-use Rattle.guarantee.specs.Rows.{own-low, own-high, own-within, row-no-mark, giveUp-not-own}
+use Rattle.guarantee.specs.Rows.{own-low, own-high, own-within, row-no-mark}
 
 -- what is below this beats what is best so far: best, and one more while giving up is best
 abbrev thresholdOn : Bool → ℕ → ℕ

@@ -39,7 +39,7 @@ module _ (p : Problem) (formed : WellFormed p) (v : ℕ → ℕ) (zeros : (s : �
       inner : s < p .states
       inner = cover .states s i
 
-      at-choice : (c : Choice) → CoversAt p K u set s c → ((t : ℕ) → u t < fuel → set t → u t + suc M ≤ K * v t → ⊥) → ⊥
+      at-choice : (c : Choice) → CoversAt p K u u set s c → ((t : ℕ) → u t < fuel → set t → u t + suc M ≤ K * v t → ⊥) → ⊥
       at-choice (picks-row r) covers down =
           let os = p .outcomes r in
           let row : r < p .rows = own-row p formed s r inner (covers .0) in
@@ -119,7 +119,7 @@ module _ (p : Problem) (formed : WellFormed p) (v picks : ℕ → ℕ) (C : ℕ)
     leads own o i = along {t = o .successor} reached (rw (other, own) (in-mapped i))
 
     row-covers : ownRow p s (picks s) ≡ true → rowValue p v (picks s) ≤ v s + p .tolerance - 1 → C ≤ rowTicks p (picks s)
-        → CoversAt p (C - p .tolerance) (λ t. C * v t) (Reached p picks) s (picks-row (picks s))
+        → CoversAt p (C - p .tolerance) (λ t. C * v t) (λ t. C * v t) (Reached p picks) s (picks-row (picks s))
     row-covers own near cheap =
         let r = picks s in
         let sum = weightedSum (p .outcomes r) v in
@@ -137,13 +137,13 @@ module _ (p : Problem) (formed : WellFormed p) (v picks : ℕ → ℕ) (C : ℕ)
     choice-covers
         : (b own : Bool) → eqb (picks s) giveUp ≡ b → ownRow p s (picks s) ≡ own → pickValueOn b p v (picks s) ≤ v s + p .tolerance - 1
         → C ≤ pickCostOn b p (picks s) → (picks s ≡ giveUp) ⊎ (ownRow p s (picks s) ≡ true)
-        → CoversAt p (C - p .tolerance) (λ t. C * v t) (Reached p picks) s (choiceOn b own (picks s))
+        → CoversAt p (C - p .tolerance) (λ t. C * v t) (λ t. C * v t) (Reached p picks) s (choiceOn b own (picks s))
     choice-covers true own e o near cheap fits = give-covers near cheap
     choice-covers false true e o near cheap fits = row-covers o near cheap
     choice-covers false false e o near cheap (inl give) = true≢false (sym (eq-eqb (picks s) giveUp give) ∙ e)
     choice-covers false false e o near cheap (inr own) = true≢false (sym own ∙ o)
 
-    state-covers : CoversAt p (C - p .tolerance) (λ t. C * v t) (Reached p picks) s (planOf p picks s)
+    state-covers : CoversAt p (C - p .tolerance) (λ t. C * v t) (λ t. C * v t) (Reached p picks) s (planOf p picks s)
     unfolding planOf pickValue pickCost
     state-covers =
         choice-covers (eqb (picks s) giveUp) (ownRow p s (picks s)) refl refl (facts .pick-close s inner other (marked s reached))

@@ -3,7 +3,7 @@
 use mathlib.Core.Path.{_≡_, refl, ap}
 use Prim.Native.Nat.{ℕ, suc, _+_, _-_, _≤_, _<_}
 use native.Mathlib.Omega.{arith}
-use mathlib.Core.Bool.{Bool, true, false, _||_, not, true≢false}
+use mathlib.Core.Bool.{Bool, true, false, _||_, not}
 use mathlib.Core.List.{List}
 use lib.Dec.{leb}
 use lib.ListN.{length}
@@ -18,7 +18,7 @@ use Rattle.model.specs.Questions.{undercutState, undercutRow}
 use Rattle.model.specs.Audit.{Audited, accepted, refused, orElse, open-state, pickValue, unboundedState, strayState, slackState}
 use Rattle.model.specs.Audit.{tableQuestions, problemAudit, auditOn, audit}
 use Rattle.model.specs.Promises.{ExcessFits}
-use Rattle.guarantee.specs.Searches.{first-at}
+use Rattle.guarantee.specs.Searches.{or-none, first-at}
 use Rattle.guarantee.specs.Numbers.{early-file, early-number}
 use Rattle.guarantee.specs.WellFormed.{well-formed}
 
@@ -81,13 +81,9 @@ module _ (p : Problem) (v picks : ℕ → ℕ) where
       let s = slackState p v picks marks in
       let close = leb (pickValue p v picks s) (v s + p .tolerance - 1) in
       leb-false _ _
-      (said (not (open-state p marks s)) close
+      (or-none (not (open-state p marks s)) close
       (first-at (λ s. not (open-state p marks s) || leb (pickValue p v picks s) (v s + p .tolerance - 1)) 0 (p .states)
       (omega (arith, leb-false (p .states) (slackState p v picks marks) h))))
-    where
-      said : (a b : Bool) → (a || b) ≡ false → b ≡ false
-      said true b e = absurd (true≢false e)
-      said false b e = e
 
   pub table-excess : 1 ≤ p .tolerance → Fitting (p .tolerance) (tableQuestions p v picks)
   unfolding tableQuestions

@@ -17,9 +17,9 @@ use Rattle.model.specs.Audit.{Audited, accepted, refused as audit-refused, ownP
 use Rattle.model.specs.Following.{leadsTo, moveSeconds, atEnd, hasOutcome, mayOccur, reportQuestions, done, refused, Report}
 use Rattle.model.specs.Following.{follow, atStart, opening, moved, report}
 use Rattle.model.specs.declared.Follower.{Follower}
-use Rattle.guarantee.specs.Searches.{and-both}
+use Rattle.guarantee.specs.Searches.{and-both, or-clear}
 use Rattle.guarantee.specs.Accepted.{audit-formed}
-use Rattle.guarantee.specs.Occurs.{or-clear, open-goal, asked-moves, asked-occurs, asked-open, asked-seconds}
+use Rattle.guarantee.specs.Occurs.{open-goal, asked-moves, asked-occurs, asked-open, asked-seconds}
 use Rattle.guarantee.specs.Occurs.{occurs-state, occurs-pick, occurs-has, occurs-given, occurs-outcome, occurs-leads, occurs-seconds}
 
 -- what a record shows where the answer is done: a state of the file, at most a million moves, the seconds of the last move over the

@@ -3,7 +3,7 @@
 use mathlib.Core.Path.{_≡_, refl, sym, _∙_, ap}
 use Prim.Native.Nat.{ℕ, zero, suc, _≤_, _<_}
 use native.Mathlib.Omega.{arith}
-use mathlib.Core.Bool.{Bool, true, false, _&&_, _||_, not, true≢false}
+use mathlib.Core.Bool.{Bool, true, false, _&&_, not, true≢false}
 use mathlib.Core.List.{List, [], _∷_, map}
 use lib.Dec.{ltb, eqb}
 use lib.ListN.{getD, length}
@@ -16,19 +16,11 @@ use Rattle.model.specs.Audit.{ownPick}
 use Rattle.model.specs.Following.{leadsOn, leadsTo, moveSecondsOn, moveSeconds, atEnd, inShift, hasOutcome, mayOccur}
 use Rattle.model.specs.Following.{reportQuestions}
 use Rattle.model.specs.declared.Follower.{Follower}
-use Rattle.guarantee.specs.Searches.{and-left, and-right, or-skip, then-first, then-next, ask-yes}
+use Rattle.guarantee.specs.Searches.{and-left, and-right, or-skip, or-none, then-first, then-next, ask-yes}
 use Rattle.guarantee.specs.WellFormed.{WellFormed}
 use Rattle.guarantee.specs.Walks.{own-row, next-state}
 
 -- Bools and lists
-
-or-none : (a b : Bool) → (a || b) ≡ false → b ≡ false
-or-none true b h = absurd (true≢false h)
-or-none false b h = h
-
-pub or-clear : (a b : Bool) → (not a || b) ≡ false → a ≡ true
-or-clear true b h = refl
-or-clear false b h = absurd (true≢false h)
 
 pub and-none : (a b : Bool) → (a && b) ≡ false → a ≡ true → b ≡ false
 and-none true b h e = h

@@ -8,7 +8,7 @@ use mathlib.Core.List.{List}
 use lib.ListN.{getD}
 use Rattle.model.specs.Limits.{minRate, maxRate, rateCount, maxSeconds, fileStick, millimetreSeconds}
 use Rattle.model.specs.Sections.{lengthSeconds, rateSeconds, secondsOn, kindOf, costNumberOf, problemOf}
-use Rattle.model.specs.Sheets.{rateLine, rateLines, sheetText, tableText}
+use Rattle.model.specs.Sheets.{rateLines, sheetText, tableText}
 
 module _ (mm rate : ℕ) where
   pub seconds-rounded

@@ -39,6 +39,14 @@ pub or-right : (a : Bool) {b : Bool} → b ≡ true → (a || b) ≡ true
 or-right true h = refl
 or-right false h = h
 
+pub or-none : (a b : Bool) → (a || b) ≡ false → b ≡ false
+or-none true b h = absurd (true≢false h)
+or-none false b h = h
+
+pub or-clear : (a b : Bool) → (not a || b) ≡ false → a ≡ true
+or-clear true b h = refl
+or-clear false b h = absurd (true≢false h)
+
 pub or-cases : (a b : Bool) → (a || b) ≡ true → (a ≡ true) ⊎ (b ≡ true)
 or-cases true b h = inl refl
 or-cases false b h = inr h

@@ -1,7 +1,7 @@
 -- A solved run is accepted: questions 16 to 19 say yes of its values and picks.
 -- In its last round nothing rose and no pick changed, so each listed state was backed up under the final values and the final picks.
 use mathlib.Core.Path.{_≡_, refl, sym, _∙_, ap}
-use Prim.Native.Nat.{ℕ, _+_, _≤_, _<_}
+use Prim.Native.Nat.{ℕ, _+_, _<_}
 use native.Mathlib.Omega.{arith}
 use mathlib.Core.Bool.{true, false, true≢false}
 use mathlib.Core.List.{List, [], _∷_}

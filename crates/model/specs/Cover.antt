@@ -16,21 +16,21 @@ pub data Choice : Type 0 where
 
 -- What a cover asks at a state s of its set that is no goal. "Where it picks a row, all successors are in the set and 1000 × U(s)
 -- is at least K × 1,000,000 × c plus the sum of w × U(successor). Where it gives up, U(s) is at least K × 1000 × D." E7: "W × U(s) is at
--- least K × W × 1000 × c plus the sum of w × U(successor)."
-abbrev pub CoversAt : Problem → ℕ → (ℕ → ℕ) → (ℕ → Type 0) → ℕ → Choice → Type 0
-CoversAt p K u set s (picks-row r) =
+-- least K × W × 1000 × c plus the sum of w × U(successor)." U at the state is of one table, and at its successors, with the set, of another
+abbrev pub CoversAt : Problem → ℕ → (ℕ → ℕ) → (ℕ → ℕ) → (ℕ → Type 0) → ℕ → Choice → Type 0
+CoversAt p K here next set s (picks-row r) =
     (ownRow p s r ≡ true)
     × ((o : Outcome) → In o (p .outcomes r) → set (o .successor))
-    × (K * (p .total * rowTicks p r) + weightedSum (p .outcomes r) u ≤ p .total * u s)
-CoversAt p K u set s gives-up = K * giveUpCost p ≤ u s
-CoversAt p K u set s picks-nothing = ⊥
+    × (K * (p .total * rowTicks p r) + weightedSum (p .outcomes r) next ≤ p .total * here s)
+CoversAt p K here next set s gives-up = K * giveUpCost p ≤ here s
+CoversAt p K here next set s picks-nothing = ⊥
 
 -- "A cover of it in K-ths of a tick is a table U of whole numbers, zero or more, and a set of states holding the start. At each
--- state of the set that isn't a goal the plan picks."
+-- state of the set that isn't a goal the plan picks." Both tables are U
 pub record Cover (p : Problem) (K : ℕ) (plan : ℕ → Choice) (u : ℕ → ℕ) (set : ℕ → Type 0) : Type 0 where
   pub states : (s : ℕ) → set s → s < p .states
   pub start : set (p .start)
-  pub covers : (s : ℕ) → set s → p .goal s ≡ false → CoversAt p K u set s (plan s)
+  pub covers : (s : ℕ) → set s → p .goal s ≡ false → CoversAt p K u u set s (plan s)
 
 -- what a picks table has at a state
 abbrev pub choiceOn : Bool → Bool → ℕ → Choice

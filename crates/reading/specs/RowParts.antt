@@ -8,11 +8,11 @@ use mathlib.Core.List.{List}
 use lib.ListN.{length, getD, take, drop, length-drop}
 use lib.Seq.{length-take-le}
 use Rattle.model.specs.Limits.{ticksPerSecond}
-use Rattle.model.specs.Problem.{endRow}
+use Rattle.model.specs.Problem.{endRow, ownRow}
 use Rattle.model.specs.Sections.{problemOf, outcomeAt, outcomeCountOf, outcomesFrom}
 use Rattle.guarantee.specs.Parts.{outcomes-front}
 use Rattle.reading.specs.Ready.{Ready}
-use Rattle.reading.specs.Tests.{rowsBase, outcomesIn}
+use Rattle.reading.specs.Tests.{rowsBase, outcomesIn, ownAt}
 
 -- the length of a part of k outcomes, how many it has, and what they are
 module _ (f : List ℕ) (a e k : ℕ) (h : e ≡ a + 4 * k) (l : e ≤ length f) where
@@ -51,6 +51,9 @@ module _ (f index : List ℕ) (h : Ready f index) (s : ℕ) (l : s < problemOf f
 
   pub rows-end : getD index (s + 1) 0 ≡ endRow (problemOf f) s
   rows-end = rw add-one (h .first-row (suc s) l ∙ h .rows-follow s)
+
+  pub own-at : (r : ℕ) → ownAt index s r ≡ ownRow (problemOf f) s r
+  own-at r = rw (rows-begin, rows-end) refl
 
 -- the outcomes of a row are read from where they begin
 pub outcomes-read : (f : List ℕ) (r : ℕ) → problemOf f .outcomes r ≡ outcomesFrom (drop (outcomeAt f r) f) 0 (outcomeCountOf f r)

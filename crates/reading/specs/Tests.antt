@@ -1,9 +1,9 @@
 -- The file's items as the loops read them, at places counted from where a section's items begin, and the entries of the index.
 use mathlib.Core.Path.{_≡_}
 use Prim.Native.Nat.{ℕ, zero, suc, _+_, _-_, _*_, _/_}
-use mathlib.Core.Bool.{Bool}
+use mathlib.Core.Bool.{Bool, _&&_}
 use mathlib.Core.List.{List}
-use lib.Dec.{eqb}
+use lib.Dec.{leb, ltb, eqb}
 use lib.ListN.{length, getD, set, take, drop}
 use Rattle.model.specs.Bytes.{u16At}
 use Rattle.model.specs.Limits.{maxStates, maxRows, ticksPerSecond}
@@ -32,6 +32,10 @@ rowsBase = maxStates + 1
 
 abbrev pub indexSize : ℕ
 indexSize = rowsBase + 2 * maxRows + 2
+
+-- whether row r is one of state s's own: between its first row and the next state's
+abbrev pub ownAt : List ℕ → ℕ → ℕ → Bool
+ownAt index s r = leb (getD index s 0) r && ltb r (getD index (s + 1) 0)
 
 -- the index after k rows: where the outcomes of each begin, and its cost in ticks
 unfoldable pub rowEntries : (ℕ → ℕ) → (ℕ → ℕ) → List ℕ → ℕ → List ℕ

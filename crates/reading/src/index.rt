@@ -20,13 +20,21 @@ ghost use Rattle.model.specs.Search.{sumTo};
 ghost use Rattle.model.specs.Sections.{secondsOn};
 ghost use Rattle.rates.specs.Sheet.{RateSheet};
 ghost use Rattle.reading.specs.Laid.{lastOutcomes};
-ghost use Rattle.reading.specs.Tests.{rowCountAt, rowTest, RowsIndexed};
+ghost use Rattle.reading.specs.Tests.{rowCountAt, rowTest, RowsIndexed, ownAt};
 
 // Entry s, for s up to the number of states: the first row of state s. Entry ROWS + 2 r, for r up to the number of rows: where
 // the outcomes of row r begin. Entry ROWS + 2 r + 1: the cost of row r in ticks.
 pub const ROWS: usize = MAX_STATES + 1;
 
 pub const INDEX: usize = ROWS + 2 * MAX_ROWS + 2;
+
+// Whether row r is one of state s's own.
+pub fn is_own(index: &[u32; INDEX], s: usize, r: u32) -> bool
+    requires { ⌜ s < maxStates ⌝ }
+    ensures { λ b. ⌜ b ≡ ownAt (now (index .entry)) s r ⌝ }
+{
+    index[s] <= r && r < index[s + 1]
+}
 
 // Fills in the first rows of the states, and answers the sum of their row numbers: question 7.
 pub fn index_states(file: &[u8], at: usize, n: usize, index: &mut [u32; INDEX]) -> u32

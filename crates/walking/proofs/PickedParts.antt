@@ -5,18 +5,17 @@ use Prim.Native.Nat.{ℕ, zero, suc, _+_, _-_, _*_, _/_, _≤_, _<_}
 use native.Mathlib.Omega.{arith}
 use mathlib.Core.Bool.{Bool, true, false, not, and-false, true≢false}
 use mathlib.Core.List.{List, _∷_, map}
-use lib.Dec.{leb, ltb}
 use lib.ListN.{getD, length, drop}
 use lib.Seq.{getD-drop}
-use borrow.Author.Tests.{le-leb, lt-ltb, leb-true, ltb-true}
 use Rattle.model.specs.Bytes.{u16At}
 use Rattle.model.specs.Limits.{maxStates, maxRows}
 use Rattle.model.specs.Problem.{Outcome, endRow, ownRow}
 use Rattle.model.specs.Sections.{problemOf, outcomeAt, outcomeCountOf, outcomesFrom}
 use Rattle.model.specs.Value.{byState}
 use Rattle.model.specs.Walk.{here, there, next, successors}
-use Rattle.guarantee.specs.Walks.{and-true, next-state}
-use Rattle.reading.specs.RowParts.{part-begins, part-ends, rows-begin, rows-end, outcomes-read}
+use Rattle.guarantee.specs.Walks.{own-row, next-state}
+use Rattle.guarantee.specs.Rows.{own-low, own-high}
+use Rattle.reading.specs.RowParts.{part-begins, part-ends, rows-end, own-at, outcomes-read}
 use Rattle.walking.specs.Walkable.{Walkable}
 use Rattle.walking.specs.Trails.{Picked, leadsFrom, leads, Outcomes}
 
@@ -53,9 +52,6 @@ row-leads f r =
     ∙ ap (λ j. leadsFrom f j (outcomeCountOf f r)) (omega arith)
 
 module _ {f index : List ℕ} (w : Walkable f index) (s : ℕ) (state : s < problemOf f .states) where
-  first-row : getD index s 0 ≡ problemOf f .firstRow s
-  first-row = rows-begin f index (w .ready) s state
-
   end-row : getD index (s + 1) 0 ≡ endRow (problemOf f) s
   end-row = rows-end f index (w .ready) s state
 
@@ -73,28 +69,18 @@ module _ {f index : List ℕ} (w : Walkable f index) (s : ℕ) (state : s < prob
     none : ownRow (problemOf f) s (getD picks s 0) ≡ false → Ends
     unfolding next leadsFrom
     none o =
-        let empty = at .stray (λ l h. stray l h) in
+        let empty = at .stray (own-at f index (w .ready) s state (getD picks s 0) ∙ o) in
         record {
           whole = omega (arith, empty .0, empty .1);
           inside = omega (arith, empty .1);
           leads-next = rw (empty .0, empty .1, o, and-false (not (problemOf f .goal s)));
         }
-      where
-        stray : getD index s 0 ≤ getD picks s 0 → getD picks s 0 < getD index (s + 1) 0 → ⊥
-        stray l h =
-            let low : problemOf f .firstRow s ≤ getD picks s 0 = omega (arith, first-row) in
-            let high : getD picks s 0 < endRow (problemOf f) s = omega (arith, end-row) in
-            let both : ownRow (problemOf f) s (getD picks s 0) ≡ true = rw (le-leb _ _ low, lt-ltb _ _ high) in
-            true≢false (sym both ∙ o)
 
     own : problemOf f .goal s ≡ false → ownRow (problemOf f) s (getD picks s 0) ≡ true → Ends
     unfolding next
     own e o =
-        let both = and-true (leb (problemOf f .firstRow s) (getD picks s 0)) (ltb (getD picks s 0) (endRow (problemOf f) s)) o in
-        let low : problemOf f .firstRow s ≤ getD picks s 0 = leb-true _ _ (both .0) in
-        let high : getD picks s 0 < endRow (problemOf f) s = ltb-true _ _ (both .1) in
-        let row : getD picks s 0 < problemOf f .rows = omega (arith, w .ready .rows-within s state) in
-        let ends = at .own (omega (arith, first-row)) (omega (arith, end-row)) in
+        let row : getD picks s 0 < problemOf f .rows = own-row (problemOf f) (w .formed) s (getD picks s 0) state o in
+        let ends = at .own (own-at f index (w .ready) s state (getD picks s 0) ∙ o) in
         let rows = problemOf f .rows in
         let start : from ≡ outcomeAt f (getD picks s 0) =
         ends .0 ∙ part-begins f index rows (w .ready .outcomes-at) (w .ready .outcomes-follow) (getD picks s 0) row in
@@ -107,14 +93,20 @@ module _ {f index : List ℕ} (w : Walkable f index) (s : ℕ) (state : s < prob
           leads-next = rw (count, start, e, o) (sym (row-leads f (getD picks s 0)));
         }
 
+    -- a goal has no rows
+    goal-stray : problemOf f .goal s ≡ true → ownRow (problemOf f) s (getD picks s 0) ≡ false
+    goal-stray e = go (ownRow (problemOf f) s (getD picks s 0)) refl
+      where
+        go : (o : Bool) → ownRow (problemOf f) s (getD picks s 0) ≡ o → o ≡ false
+        go true o =
+            let p = problemOf f in
+            absurd (omega (arith, own-low p s (getD picks s 0) o, own-high p s (getD picks s 0) o, w .formed .goal-rows s state e))
+        go false o = refl
+
     ends-on : (g o : Bool) → problemOf f .goal s ≡ g → ownRow (problemOf f) s (getD picks s 0) ≡ o → Ends
     ends-on g false e q = none q
     ends-on false true e q = own e q
-    ends-on true true e q =
-        let both = and-true (leb (problemOf f .firstRow s) (getD picks s 0)) (ltb (getD picks s 0) (endRow (problemOf f) s)) q in
-        let low : problemOf f .firstRow s ≤ getD picks s 0 = leb-true _ _ (both .0) in
-        let high : getD picks s 0 < endRow (problemOf f) s = ltb-true _ _ (both .1) in
-        absurd (omega (arith, w .formed .goal-rows s state e))
+    ends-on true true e q = absurd (true≢false (sym q ∙ goal-stray e))
 
     ends : Ends
     ends = ends-on _ _ refl refl
@@ -126,8 +118,7 @@ module _ {f index : List ℕ} (w : Walkable f index) (s : ℕ) (state : s < prob
         open-on : (g : Bool) → problemOf f .goal s ≡ g → problemOf f .goal s ≡ false
         open-on false e = e
         open-on true e =
-            let rows = w .formed .goal-rows s state e in
-            let empty = at .stray (λ l h. omega (arith, first-row, end-row)) in
+            let empty = at .stray (own-at f index (w .ready) s state (getD picks s 0) ∙ goal-stray e) in
             absurd (omega (arith, empty .0, empty .1))
 
     pub picked-leads : leads f from to ≡ next (problemOf f) (byState picks) s

@@ -1,7 +1,7 @@
 -- Where the walk starts and what it leaves: clear marks are a walk under way, and the visit of the start is the
 -- model's walk.
 use mathlib.Core.Path.{_≡_, refl, sym, _∙_, ap}
-use Prim.Native.Nat.{ℕ, _+_, _≤_}
+use Prim.Native.Nat.{ℕ, _≤_}
 use native.Mathlib.Omega.{arith}
 use mathlib.Core.List.{List}
 use lib.ListN.{length, replicate, length-replicate}

@@ -2,6 +2,7 @@
 -- number of unmarked states. One record for what is asked, one for what is promised, over the file's graph.
 use mathlib.Core.Path.{_≡_}
 use Prim.Native.Nat.{ℕ, zero, suc, _+_, _-_, _*_, _/_, _≤_, _<_}
+use mathlib.Core.Bool.{true, false}
 use mathlib.Core.List.{List, [], _∷_}
 use lib.ListN.{getD, length, take, drop}
 use Rattle.model.specs.Bytes.{u16At}
@@ -10,13 +11,13 @@ use Rattle.model.specs.Value.{byState}
 use Rattle.model.specs.Walk.{In, Trail, next, visitState, visitOutcomes}
 use Rattle.guarantee.specs.Graphs.{Step, unmarked, each}
 use Rattle.reading.specs.RowParts.{partFrom, partTo}
+use Rattle.reading.specs.Tests.{ownAt}
 use Rattle.walking.specs.Walkable.{Walkable}
 
--- the outcomes of a pick: its own where it is between the state's first row and the next state's, else none
+-- the outcomes of a pick: its own where it is one of the state's rows by the index, else none
 pub record Picked (index : List ℕ) (s pick from to : ℕ) : Type 0 where
-  pub own : getD index s 0 ≤ pick → pick < getD index (s + 1) 0
-      → (from ≡ partFrom index pick) × (to ≡ partTo index pick)
-  pub stray : (getD index s 0 ≤ pick → pick < getD index (s + 1) 0 → ⊥) → (from ≡ 0) × (to ≡ 0)
+  pub own : ownAt index s pick ≡ true → (from ≡ partFrom index pick) × (to ≡ partTo index pick)
+  pub stray : ownAt index s pick ≡ false → (from ≡ 0) × (to ≡ 0)
 
 -- the successors of k outcomes whose bytes begin at i
 unfoldable pub leadsFrom : List ℕ → ℕ → ℕ → List ℕ

@@ -2,6 +2,7 @@
 use model::MAX_STATES;
 use reading::index::INDEX;
 use reading::index::ROWS;
+use reading::index::is_own;
 use reading::numbers::u16_at;
 use reading::settings::start_of;
 use reading::states::is_goal;
@@ -41,19 +42,17 @@ fn index_at(index: &[u32; INDEX], i: usize) -> usize
 }
 
 // Where the outcomes of row `pick` stand; an empty part where it is not one of state s's own.
-fn picked(index: &[u32; INDEX], s: usize, pick: usize) -> Part
+fn picked(index: &[u32; INDEX], s: usize, pick: u32) -> Part
     requires { ⌜ (s < maxStates) × (getD (now index) (s + 1) 0 ≤ maxRows) ⌝ }
     ensures { λ r. ⌜ Picked (now (index .entry)) s pick (r .from) (r .to) ⌝ }
 {
-    if pick < index_at(index, s) {
+    if !is_own(index, s, pick) {
         return Part { from: 0, to: 0 };
     }
-    if index_at(index, s + 1) <= pick {
-        return Part { from: 0, to: 0 };
-    }
+    let r = wide(pick);
     Part {
-        from: index_at(index, ROWS + 2 * pick),
-        to: index_at(index, ROWS + 2 * pick + 2),
+        from: index_at(index, ROWS + 2 * r),
+        to: index_at(index, ROWS + 2 * r + 2),
     }
 }
 
@@ -89,7 +88,7 @@ fn visit_state(
         (now (marks .entry)) (now (list .entry)) n (now (marks .exit)) (now (list .exit)) r ⌝ }
 {
     marks[s] = 1;
-    let part = picked(index, s, picks[s] as usize);
+    let part = picked(index, s, picks[s] as u32);
     let k = visit_outcomes(file, index, picks, marks, list, part.from, part.to, n);
     if no_goal(file, part.from, part.to, s) {
         list[k] = s as u16;

@@ -3,7 +3,6 @@
 use mathlib.Core.Path.{_≡_, refl, _∙_, sym, ap}
 use Rattle.model.specs.Answers.{verdictOf}
 use Rattle.model.specs.Questions.{passes, fileQuestions}
-use Rattle.auditing.specs.TablesAsked.{TablesAsked}
 use Rattle.auditing.proofs.Stops.{audit-stop-file, audit-stop-values, audit-stop-picks, audit-tables, tables-asked}
 use Rattle.auditing.proofs.Stops.{file-refused, file-asked}
 use borrow.Author.Needs.{needs}

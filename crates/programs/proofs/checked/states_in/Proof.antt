@@ -1,6 +1,6 @@
 -- `states_in` answers the number of states that the layout has, where the file passes.
 -- Made by `places make` from answers/checked/states_in.ans: edit that file, and not this one.
-use mathlib.Core.Path.{_≡_, _∙_, sym, ap}
+use mathlib.Core.Path.{_∙_, sym, ap}
 use native.Mathlib.Nat.{le-trans, le-of-eq}
 use Rattle.model.specs.Answers.{verdictOf}
 use Rattle.model.specs.Questions.{fileQuestions, layoutQuestions}

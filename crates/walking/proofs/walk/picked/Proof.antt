@@ -1,64 +1,76 @@
 -- `picked` answers the part that the index gives to the pick. At the last return the pick is an own row.
 -- Made by `places make` from answers/walk/picked.ans: edit that file, and not this one.
+use mathlib.Core.Bool.{true≢false}
+use mathlib.Core.Path.{refl, sym, _∙_}
+use Prim.Native.Nat.{_+_, _<_}
+use lib.Dec.{leb}
+use lib.ListN.{getD}
+use borrow.Author.Tests.{not-true, not-false, ltb-true}
+use Rattle.guarantee.specs.Searches.{and-right}
 use borrow.Author.Needs.{needs}
 use native.Mathlib.Omega.{arith}
 use Rattle.walking.proofs.walk.picked.Statement.{statement}
 use Rattle.walking.proofs.walk.picked.Tie as tie
 
-index-at-requires : tie.Need-index-at-requires
-index-at-requires c κs = search needs
+-- the pick is before the next state's first row
+below : (c : tie.Else1) → c .before .before .args .pick < getD (c .before .before .args .index .now) (c .before .before .args .s + 1) 0
+below c =
+    ltb-true _ _
+    (and-right (leb (getD (c .before .before .args .index .now) (c .before .before .args .s) 0) (c .before .before .args .pick)) _ (sym (c .before .is-own .ensures) ∙ not-false _ (c .if1 .left)))
+
+is-own-requires : tie.Need-is-own-requires
+is-own-requires c κs = c .pre .0
 
 returns : tie.Need-returns
-returns c = search needs
+returns c =
+    record {
+      own = λ o. absurd (true≢false (sym o ∙ (sym (c .before .is-own .ensures) ∙ not-true _ (c .if1 .taken))));
+      stray = λ o. (refl, refl);
+    }
 
-add-index-at : tie.Need-add-index-at
-add-index-at c = search needs
-
-index-at-requires-2 : tie.Need-index-at-requires-2
-index-at-requires-2 c κs = search needs
-
-returns-2 : tie.Need-returns-2
-returns-2 c = search needs
+wide-requires : tie.Need-wide-requires
+wide-requires c κs = search needs
 
 mul-index-at : tie.Need-mul-index-at
-mul-index-at c = search needs
+mul-index-at c = omega (arith, c .before .before .before .pre .1, below (c .before), c .wide .ensures)
 
-add-index-at-2 : tie.Need-add-index-at-2
-add-index-at-2 c = search needs
+add-index-at : tie.Need-add-index-at
+add-index-at c = omega (arith, c .before .before .before .pre .1, below (c .before), c .wide .ensures)
 
-index-at-requires-3 : tie.Need-index-at-requires-3
-index-at-requires-3 c κs = search needs
+index-at-requires : tie.Need-index-at-requires
+index-at-requires c κs = omega (arith, c .before .before .before .pre .1, below (c .before), c .wide .ensures)
 
 mul-index-at-2 : tie.Need-mul-index-at-2
-mul-index-at-2 c = search needs
+mul-index-at-2 c = omega (arith, c .before .before .before .before .pre .1, below (c .before .before), c .before .wide .ensures)
+
+add-index-at-2 : tie.Need-add-index-at-2
+add-index-at-2 c = omega (arith, c .before .before .before .before .pre .1, below (c .before .before), c .before .wide .ensures)
 
 add-index-at-3 : tie.Need-add-index-at-3
-add-index-at-3 c = search needs
+add-index-at-3 c = omega (arith, c .before .before .before .before .pre .1, below (c .before .before), c .before .wide .ensures)
 
-add-index-at-4 : tie.Need-add-index-at-4
-add-index-at-4 c = search needs
+index-at-requires-2 : tie.Need-index-at-requires-2
+index-at-requires-2 c κs = omega (arith, c .before .before .before .before .pre .1, below (c .before .before), c .before .wide .ensures)
 
-index-at-requires-4 : tie.Need-index-at-requires-4
-index-at-requires-4 c κs = search needs
-
-returns-3 : tie.Need-returns-3
-returns-3 c =
-    record { own = λ l h. (c .before .index-at3 .ensures, c .index-at4 .ensures); stray = λ h. absurd (h (omega arith) (omega arith)) }
+returns-2 : tie.Need-returns-2
+returns-2 c =
+    record {
+      own = λ o. rw (← (c .before .before .wide .ensures)) (c .before .index-at .ensures, c .index-at2 .ensures);
+      stray = λ o. absurd (true≢false (sym (sym (c .before .before .before .before .is-own .ensures) ∙ not-false _ (c .before .before .before .if1 .left)) ∙ o));
+    }
 
 pub picked-spec : {M : Type 1} → statement M
 picked-spec =
     tie.close
     (tie.spec
-    index-at-requires
+    is-own-requires
     returns
-    add-index-at
-    index-at-requires-2
-    returns-2
+    wide-requires
     mul-index-at
-    add-index-at-2
-    index-at-requires-3
+    add-index-at
+    index-at-requires
     mul-index-at-2
+    add-index-at-2
     add-index-at-3
-    add-index-at-4
-    index-at-requires-4
-    returns-3)
+    index-at-requires-2
+    returns-2)

@@ -1,10 +1,10 @@
 -- `is_own` answers whether a row lies between the state's first row and the next state's.
--- Made by `places make` from answers/moving/is_own.ans: edit that file, and not this one.
+-- Made by `places make` from answers/index/is_own.ans: edit that file, and not this one.
 use mathlib.Core.Path.{refl}
 use borrow.Author.Tests.{le-leb, lt-leb}
 use borrow.Author.Needs.{needs}
-use Rattle.following.proofs.moving.is_own.Statement.{statement}
-use Rattle.following.proofs.moving.is_own.Tie as tie
+use Rattle.reading.proofs.index.is_own.Statement.{statement}
+use Rattle.reading.proofs.index.is_own.Tie as tie
 
 mul-if1 : tie.Need-mul-if1
 mul-if1 c = search needs
