@@ -3,8 +3,8 @@ pub mod shift;
 
 use model::AuditAnswer;
 use model::FileAnswer;
-use model::FormAnswer;
 use model::SolveAnswer;
+use model::WriteAnswer;
 ghost use mathlib.Core.Path.{_≡_};
 ghost use Prim.Native.Nat.{_≤_};
 ghost use lib.ListN.{length};
@@ -180,11 +180,11 @@ pub extern "C" fn cuulipso_set_form(file: &[u8], out: &mut [u8], answer: &mut [u
     }
     let said = exchanging::set_form(file, out);
     match said {
-        FormAnswer::Written { length } => {
+        WriteAnswer::Written { length } => {
             put3(answer, length as u64, 0, 0);
             3
         }
-        FormAnswer::Refused { question, place } => {
+        WriteAnswer::Refused { question, place } => {
             put3(answer, question as u64, place as u64, 0);
             0
         }

@@ -7,17 +7,18 @@ use mathlib.Core.List.{List}
 use lib.IntN.{pos}
 use lib.ListN.{length, getD, replicate, length-replicate}
 use borrow.Author.Tests.{le-leb, lt-leb}
-use Rattle.model.specs.Answers.{formCarries, exchangedCarries}
+use Rattle.model.specs.Answers.{writeCarries, wroteCarries}
 use Rattle.model.specs.Buffers.{copied}
 use Rattle.model.specs.Carried.{sized, refusal}
 use Rattle.model.specs.Encoding.{settingNumber, outcomesTo, partsTo}
 use Rattle.model.specs.Limits.{maxRows, maxOutcomes}
-use Rattle.model.specs.Promises.{Exchanges}
+use Rattle.model.specs.Promises.{Writes}
 use Rattle.model.specs.Questions.{passes, fails, fileQuestions}
 use Rattle.model.specs.Rounds.{fillTo}
 use Rattle.model.specs.Sections.{problemOf}
-use Rattle.model.specs.SetForm.{setForm, exchangeQuestions, Exchange, exchange, written, refused}
-use Rattle.model.specs.declared.FormAnswer.{FormAnswer}
+use Rattle.model.specs.SetForm.{setForm, exchangeQuestions, exchange}
+use Rattle.model.specs.Writing.{Writing, written, refused}
+use Rattle.model.specs.declared.WriteAnswer.{WriteAnswer}
 use Rattle.guarantee.specs.Tables.{fill-entry}
 use Rattle.reading.specs.Ready.{Ready}
 use Rattle.exchanging.specs.Forms.{formOf, formCount, rowCodes, Accepted, Counted, formLength, FormAsked}
@@ -36,34 +37,34 @@ module _ (f out : List ℕ) where
   unfolding exchange exchangeQuestions
   stops-short e l = rw (e, lt-leb (length (setForm f)) (length out) l) refl
 
-  writes
+  writes-form
       : fileQuestions f ≡ passes → length (setForm f) ≤ length out
       → exchange f out ≡ record { answer = written (length (setForm f)); left = copied (setForm f) out }
   unfolding exchange exchangeQuestions
-  writes e l = rw (e, le-leb (length (setForm f)) (length out) l) refl
+  writes-form e l = rw (e, le-leb (length (setForm f)) (length out) l) refl
 
 replies
-    : {a : FormAnswer} {left : List ℕ} {said x : Exchange} → said ≡ x → formCarries a ≡ exchangedCarries (x .answer) → left ≡ x .left
-    → Exchanges a left said
+    : {a : WriteAnswer} {left : List ℕ} {said x : Writing} → said ≡ x → writeCarries a ≡ wroteCarries (x .answer) → left ≡ x .left
+    → Writes a left said
 replies {a} {left} e answer-is left-is =
-    subst (λ s. Exchanges a left s) (sym e) (record { answer-is = answer-is; left-is = left-is })
+    subst (λ s. Writes a left s) (sym e) (record { answer-is = answer-is; left-is = left-is })
 
 module _ (f out : List ℕ) where
   pub file-refused
-      : {a : FormAnswer} {q i : ℕ} → fileQuestions f ≡ fails q i → formCarries a ≡ refusal q i (pos 0)
-      → Exchanges a out (exchange f out)
+      : {a : WriteAnswer} {q i : ℕ} → fileQuestions f ≡ fails q i → writeCarries a ≡ refusal q i (pos 0)
+      → Writes a out (exchange f out)
   file-refused e answer = replies (stops-file f out e) answer refl
 
   pub too-short
-      : {a : FormAnswer} → fileQuestions f ≡ passes → length out < length (setForm f) → formCarries a ≡ refusal 23 0 (pos 0)
-      → Exchanges a out (exchange f out)
+      : {a : WriteAnswer} → fileQuestions f ≡ passes → length out < length (setForm f) → writeCarries a ≡ refusal 23 0 (pos 0)
+      → Writes a out (exchange f out)
   too-short e l answer = replies (stops-short f out e l) answer refl
 
   pub form-written
-      : {a : FormAnswer} {left : List ℕ} {n : ℕ} → fileQuestions f ≡ passes → n ≡ length (setForm f) → n ≤ length out
-      → formCarries a ≡ sized n → left ≡ copied (setForm f) out → Exchanges a left (exchange f out)
+      : {a : WriteAnswer} {left : List ℕ} {n : ℕ} → fileQuestions f ≡ passes → n ≡ length (setForm f) → n ≤ length out
+      → writeCarries a ≡ sized n → left ≡ copied (setForm f) out → Writes a left (exchange f out)
   form-written e size l answer left-is =
-      replies (writes f out e (omega (arith, size))) (answer ∙ ap sized size) left-is
+      replies (writes-form f out e (omega (arith, size))) (answer ∙ ap sized size) left-is
 
 pub accepts : (f index : List ℕ) → fileQuestions f ≡ passes → Ready f index → Accepted f index
 accepts f index passed ready = record { passed = passed; ready = ready }

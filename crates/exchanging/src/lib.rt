@@ -9,24 +9,24 @@ use crate::form::put_form;
 use crate::form::setting_number;
 use checking::questions::questions;
 use model::FileAnswer;
-use model::FormAnswer;
 use model::MAX_OUTCOMES;
 use model::MAX_ROWS;
+use model::WriteAnswer;
 use reading::index::INDEX;
 use reading::layout::layout_of;
 use reading::settings::total_of;
-ghost use Rattle.model.specs.Promises.{Exchanges};
+ghost use Rattle.model.specs.Promises.{Writes};
 ghost use Rattle.model.specs.SetForm.{exchange};
 
 // Writes the set form of the file at the front of `out`, and answers its length. Bytes beyond it stay. Where the file is refused,
 // or `out` is shorter than the form (23), nothing is written.
-pub fn set_form(file: &[u8], out: &mut [u8]) -> FormAnswer
-    ensures { λ r. ⌜ Exchanges r (now (out .exit)) (exchange (now (file .entry)) (now (out .entry))) ⌝ }
+pub fn set_form(file: &[u8], out: &mut [u8]) -> WriteAnswer
+    ensures { λ r. ⌜ Writes r (now (out .exit)) (exchange (now (file .entry)) (now (out .entry))) ⌝ }
 {
     let mut index = [0u32; INDEX];
     let said = questions(file, &mut index);
     if let FileAnswer::Refused { question, place } = said {
-        return FormAnswer::Refused { question, place };
+        return WriteAnswer::Refused { question, place };
     }
     let l = layout_of(file);
     let mut table = [0u32; MAX_OUTCOMES];
@@ -34,13 +34,13 @@ pub fn set_form(file: &[u8], out: &mut [u8]) -> FormAnswer
     let outcomes = gather_rows(file, &index, l.rows, &mut table, &mut counts);
     let length = form_length(setting_number(total_of(file)), l.states, l.rows, outcomes);
     if out.len() < length {
-        return FormAnswer::Refused {
+        return WriteAnswer::Refused {
             question: 23,
             place: 0,
         };
     }
     put_form(file, &index, &counts, &table, outcomes, out);
-    FormAnswer::Written {
+    WriteAnswer::Written {
         length: length as u32,
     }
 }

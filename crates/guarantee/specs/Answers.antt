@@ -6,9 +6,9 @@ use Rattle.model.specs.Questions.{Verdict, passes, fails}
 use Rattle.model.specs.Solution.{Answer, solved, spent, refused}
 use Rattle.model.specs.Audit.{Audited, accepted, refused as audit-refused}
 use Rattle.model.specs.Answers.{fileCarries, solveCarries, auditCarries, verdictCarries, answerCarries, auditedCarries}
-use Rattle.model.specs.Answers.{followedCarries, exchangedCarries, verdictOf, answerOf, auditedOf}
+use Rattle.model.specs.Answers.{followedCarries, wroteCarries, verdictOf, answerOf, auditedOf}
 use Rattle.model.specs.Following.{Followed, done, refused as report-refused}
-use Rattle.model.specs.SetForm.{Exchanged, written, refused as form-refused}
+use Rattle.model.specs.Writing.{Wrote, written, refused as write-refused}
 use Rattle.model.specs.declared.Follower.{Follower}
 use Rattle.model.specs.declared.FileAnswer.{FileAnswer}
 use Rattle.model.specs.declared.FileAnswer.the-variants.{Passed, Refused}
@@ -67,11 +67,11 @@ followed-one (report-refused q i z) done v w e = let s = said-is e in cc
 followed-one (report-refused q i z) (report-refused r j z′) v w e =
     ap (λ (c : Carried). report-refused (c .question) (c .place) (c .excess)) e
 
-pub exchanged-one : (a b : Exchanged) → exchangedCarries a ≡ exchangedCarries b → a ≡ b
-exchanged-one (written n) (written n′) e = ap (λ (c : Carried). written (c .size)) e
-exchanged-one (written n) (form-refused q i) e = let s = said-is e in cc
-exchanged-one (form-refused q i) (written n) e = let s = said-is e in cc
-exchanged-one (form-refused q i) (form-refused r j) e = ap (λ (c : Carried). form-refused (c .question) (c .place)) e
+pub wrote-one : (a b : Wrote) → wroteCarries a ≡ wroteCarries b → a ≡ b
+wrote-one (written n) (written n′) e = ap (λ (c : Carried). written (c .size)) e
+wrote-one (written n) (write-refused q i) e = let s = said-is e in cc
+wrote-one (write-refused q i) (written n) e = let s = said-is e in cc
+wrote-one (write-refused q i) (write-refused r j) e = ap (λ (c : Carried). write-refused (c .question) (c .place)) e
 
 -- so a promise of what is carried is a promise of the answer
 

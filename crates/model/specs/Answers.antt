@@ -11,12 +11,12 @@ use Rattle.model.specs.declared.SolveAnswer.{SolveAnswer}
 use Rattle.model.specs.declared.SolveAnswer.the-variants.{Solved, Spent, Refused as Turned-down}
 use Rattle.model.specs.declared.AuditAnswer.{AuditAnswer}
 use Rattle.model.specs.declared.AuditAnswer.the-variants.{Accepted, Refused as Audit-refused}
-use Rattle.model.specs.SetForm.{Exchanged, written, refused as form-refused}
+use Rattle.model.specs.Writing.{Wrote, written, refused as write-refused}
 use Rattle.model.specs.declared.Follower.{Follower}
 use Rattle.model.specs.declared.FollowAnswer.{FollowAnswer}
 use Rattle.model.specs.declared.FollowAnswer.the-variants.{Done, Refused as Report-refused}
-use Rattle.model.specs.declared.FormAnswer.{FormAnswer}
-use Rattle.model.specs.declared.FormAnswer.the-variants.{Written, Refused as Form-refused}
+use Rattle.model.specs.declared.WriteAnswer.{WriteAnswer}
+use Rattle.model.specs.declared.WriteAnswer.the-variants.{Written, Refused as Write-refused}
 
 -- what the code's answers carry, case by case: of questions 1 to 11,
 abbrev pub fileCarries : FileAnswer → Carried
@@ -39,10 +39,10 @@ abbrev pub followCarries : FollowAnswer → Follower → Carried
 followCarries Done w = following w
 followCarries (Report-refused q i excess) w = refusal q i excess
 
--- and of writing a set form
-abbrev pub formCarries : FormAnswer → Carried
-formCarries (Written n) = sized n
-formCarries (Form-refused q i) = refusal q i (pos 0)
+-- and of writing a file to a lent output
+abbrev pub writeCarries : WriteAnswer → Carried
+writeCarries (Written n) = sized n
+writeCarries (Write-refused q i) = refusal q i (pos 0)
 
 -- what the answers of the definitions carry
 
@@ -63,9 +63,9 @@ abbrev pub followedCarries : Followed → Follower → Carried
 followedCarries done w = following w
 followedCarries (report-refused q i excess) w = refusal q i excess
 
-abbrev pub exchangedCarries : Exchanged → Carried
-exchangedCarries (written n) = sized n
-exchangedCarries (form-refused q i) = refusal q i (pos 0)
+abbrev pub wroteCarries : Wrote → Carried
+wroteCarries (written n) = sized n
+wroteCarries (write-refused q i) = refusal q i (pos 0)
 
 -- inside a crate a code's answer is read as that of the definitions: the case of the same name
 

@@ -3,7 +3,7 @@ use Prim.Native.Nat.{ℕ}
 use lib.IntN.{ℤ, pos}
 use Rattle.model.specs.declared.Follower.{Follower}
 
--- what an answer says: questions 1 to 11 all pass; "solved or spent"; "Accepted"; an opening or a report is done; a set form is written;
+-- what an answer says: questions 1 to 11 all pass; "solved or spent"; "Accepted"; an opening or a report is done; a file is written;
 -- "A no ends the call"
 pub data Said : Type 0 where
   passed : Said

@@ -31,7 +31,8 @@ use Rattle.model.specs.declared.Follower.{Follower}
 use Rattle.model.specs.Lines.{codes, planText, answerLine, stateLines, stateLine, listed, runStates}
 use Rattle.model.specs.Lines.{decimal, decimalFrom, auditLine}
 use Rattle.model.specs.Encoding.{partsTo, settingNumber, settingBytes, stateBytes, rowBytes, outcomeBytes, encode}
-use Rattle.model.specs.SetForm.{weightTo, gathered, inSetForm, setForm, written, refused as form-refused, exchangeQuestions, exchange}
+use Rattle.model.specs.SetForm.{weightTo, gathered, inSetForm, setForm, exchangeQuestions, exchange}
+use Rattle.model.specs.Writing.{written, refused as write-refused}
 use Rattle.model.specs.Sheets.{rateLine, rateLines}
 use Rattle.model.specs.TableFiles.{bytes32, entries16, tableBytes, listTo}
 
@@ -297,9 +298,9 @@ forms =
     ∷ (setForm formP ≡ formP)
     ∷ (fileQuestions partnerP ≡ passes)
     ∷ (weightTo (problemOf partnerP .outcomes 0) 1 ≡ 900)
-    ∷ (exchange partnerP (replicate 65 7) ≡ record { answer = form-refused 23 0; left = replicate 65 7 })
+    ∷ (exchange partnerP (replicate 65 7) ≡ record { answer = write-refused 23 0; left = replicate 65 7 })
     ∷ (exchange partnerP (replicate 68 7) ≡ record { answer = written 66; left = formP ++ (7 ∷ 7 ∷ []) })
-    ∷ (exchange (rateP 9 0) [] ≡ record { answer = form-refused 8 1; left = [] })
+    ∷ (exchange (rateP 9 0) [] ≡ record { answer = write-refused 8 1; left = [] })
     ∷ []
 
 -- and those of E7: of each total the value of a row with its remainder, 33 × 1,492 being 49,236, 1,365 × 1,499 being 2,046,135, and

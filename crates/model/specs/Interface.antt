@@ -7,10 +7,10 @@ use lib.Dec.{leb}
 use lib.ListN.{getD, length, set}
 use lib.IntN.{ℤ, pos}
 use Rattle.model.specs.Carried.{Said, passed, solved, spent, accepted, done, written, refused, Carried}
-use Rattle.model.specs.Answers.{answerCarries, followedCarries, exchangedCarries}
+use Rattle.model.specs.Answers.{answerCarries, followedCarries, wroteCarries}
 use Rattle.model.specs.Solution.{Tables, Solution}
 use Rattle.model.specs.Following.{Report}
-use Rattle.model.specs.SetForm.{Exchange}
+use Rattle.model.specs.Writing.{Writing}
 use Rattle.model.specs.declared.Follower.{Follower}
 
 pub record Numbers (A : Type 0) : Type 0 where
@@ -79,6 +79,6 @@ pub record HandsOn (r : Report) (lent left : Follower) (before after : List ℤ)
   pub record-is : left ≡ leftOn (leb 3 (length before)) (r .left) lent
 
 -- what writing a set form (E6) hands back: the numbers, and the output; where `answer` has fewer than 3 entries nothing is written
-pub record HandsOut (e : Exchange) (lent left : List ℕ) (before after : List ℕ) (status : ℕ) : Type 0 where
-  pub numbers-are : Written (plainNumbers (exchangedCarries (e .answer))) before after status
+pub record HandsOut (e : Writing) (lent left : List ℕ) (before after : List ℕ) (status : ℕ) : Type 0 where
+  pub numbers-are : Written (plainNumbers (wroteCarries (e .answer))) before after status
   pub output-is : left ≡ leftOn (leb 3 (length before)) (e .left) lent

@@ -14,6 +14,7 @@ pub mod Solution
 pub mod Audit
 pub mod Following
 pub mod Buffers
+pub mod Writing
 pub mod Encoding
 pub mod SetForm
 pub mod Carried

@@ -1,5 +1,5 @@
 -- What the calls promise beyond the definitions' own answers: the clauses of the contracts of `solve`, `audit`,
--- of following, of set forms, and of the programs `plan` and `audit`.
+-- of following, of writing files, and of the programs `plan` and `audit`.
 use mathlib.Core.Path.{_≡_}
 use Prim.Native.Nat.{ℕ, suc, _+_, _-_, _*_, _≤_}
 use mathlib.Core.Bool.{Bool, true}
@@ -16,11 +16,11 @@ use Rattle.model.specs.Audit.{accepted, audit}
 use Rattle.model.specs.Cover.{Choice, Cover, planOf, allowance, openTo}
 use Rattle.model.specs.Carried.{Said, Carried}
 use Rattle.model.specs.Following.{Report}
-use Rattle.model.specs.Answers.{answerCarries, followCarries, followedCarries, formCarries, exchangedCarries}
-use Rattle.model.specs.SetForm.{Exchange}
+use Rattle.model.specs.Answers.{answerCarries, followCarries, followedCarries, writeCarries, wroteCarries}
+use Rattle.model.specs.Writing.{Writing}
 use Rattle.model.specs.declared.Follower.{Follower}
 use Rattle.model.specs.declared.FollowAnswer.{FollowAnswer}
-use Rattle.model.specs.declared.FormAnswer.{FormAnswer}
+use Rattle.model.specs.declared.WriteAnswer.{WriteAnswer}
 use Rattle.model.specs.Lines.{planText, runStates, auditLine}
 use Rattle.model.specs.Buffers.{Holds}
 use Rattle.model.specs.TableFiles.{entries16, entries32}
@@ -67,9 +67,9 @@ pub record Answered (answer : FollowAnswer) (left : Follower) (said : Report) : 
   pub answer-is : followCarries answer left ≡ followedCarries (said .answer) (said .left)
   pub left-is : left ≡ said .left
 
--- what writing a set form answers, and the output as it leaves it, are those of a definition
-pub record Exchanges (answer : FormAnswer) (left : List ℕ) (said : Exchange) : Type 0 where
-  pub answer-is : formCarries answer ≡ exchangedCarries (said .answer)
+-- what writing a file answers, and the output as it leaves it, are those of a definition
+pub record Writes (answer : WriteAnswer) (left : List ℕ) (said : Writing) : Type 0 where
+  pub answer-is : writeCarries answer ≡ wroteCarries (said .answer)
   pub left-is : left ≡ said .left
 
 -- "The program `plan` .. runs up to 1,000,000 rounds": with lent values and picks, and tables of its own for what is remembered and for

@@ -123,8 +123,8 @@ pub enum FollowAnswer {
     },
 }
 
-// The answer of writing a file in set form: its length, or questions 1 to 11 and 23.
-pub enum FormAnswer {
+// The answer of writing a file to a lent output: its length, or a question; in set form questions 1 to 11 and 23.
+pub enum WriteAnswer {
     Written { length: u32 },
     Refused { question: u8, place: u32 },
 }

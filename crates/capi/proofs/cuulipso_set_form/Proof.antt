@@ -2,7 +2,7 @@
 -- Made by `places make` from answers/cuulipso_set_form.ans: edit that file, and not this one.
 use borrow.Author.Tests.{le-leb, lt-leb}
 use mathlib.Core.Path.{_∙_, sym, ap}
-use Rattle.model.specs.Answers.{formCarries}
+use Rattle.model.specs.Answers.{writeCarries}
 use borrow.Author.Needs.{needs}
 use Rattle.capi.proofs.cuulipso_set_form.Statement.{statement}
 use Rattle.capi.proofs.cuulipso_set_form.Tie as tie
@@ -46,7 +46,7 @@ same-length-2 c = search needs
 
 returns-2 : tie.Need-returns-2
 returns-2 c =
-    let e = sym (c .before .before .before .before .before .before .before .before .before .set-form .ensures .answer-is) ∙ ap formCarries (c .before .before .before .before .before .said .given .1) in
+    let e = sym (c .before .before .before .before .before .before .before .before .before .set-form .ensures .answer-is) ∙ ap writeCarries (c .before .before .before .before .before .said .given .1) in
     record {
       numbers-are =
           record { status-is = simp (le-leb _ _ (c .before .before .before .before .before .before .before .before .before .before .before .if1 .left), e); table-is = c .before .before .put3 .ensures ∙ simp (le-leb _ _ (c .before .before .before .before .before .before .before .before .before .before .before .if1 .left), e) };
@@ -61,7 +61,7 @@ same-length-4 c = search needs
 
 returns-3 : tie.Need-returns-3
 returns-3 c =
-    let e = sym (c .before .before .before .before .before .before .before .before .before .set-form .ensures .answer-is) ∙ ap formCarries (c .before .before .before .before .before .said2 .given .1) in
+    let e = sym (c .before .before .before .before .before .before .before .before .before .set-form .ensures .answer-is) ∙ ap writeCarries (c .before .before .before .before .before .said2 .given .1) in
     record {
       numbers-are =
           record { status-is = simp (le-leb _ _ (c .before .before .before .before .before .before .before .before .before .before .before .if1 .left), e); table-is = c .before .before .put32 .ensures ∙ simp (le-leb _ _ (c .before .before .before .before .before .before .before .before .before .before .before .if1 .left), e) };
