@@ -6,12 +6,13 @@ use model::FileAnswer;
 use model::SolveAnswer;
 use model::WriteAnswer;
 ghost use mathlib.Core.Path.{_≡_};
+ghost use mathlib.Core.List.{[], _∷_};
 ghost use Prim.Native.Nat.{_≤_};
 ghost use lib.ListN.{length};
 ghost use Rattle.model.specs.Answers.{verdictCarries, auditedCarries};
 ghost use Rattle.model.specs.Audit.{audit};
 ghost use Rattle.model.specs.Buffers.{copied};
-ghost use Rattle.model.specs.Interface.{Written, HandsBack, HandsOut, plainNumbers, signedNumbers, three};
+ghost use Rattle.model.specs.Interface.{Hands, handing, plainNumbers, signedNumbers, nothing, solutionHanded, writingHanded};
 ghost use Rattle.model.specs.Lookup.{rowsOf};
 ghost use Rattle.model.specs.Questions.{fileQuestions};
 ghost use Rattle.model.specs.SetForm.{exchange};
@@ -20,7 +21,7 @@ ghost use Rattle.model.specs.Solution.{tables, solution};
 // Writes three numbers to the front of a table that has room for them.
 fn put3(answer: &mut [u64], a: u64, b: u64, c: u64)
     requires { ⌜ 3 ≤ length (now answer) ⌝ }
-    ensures { λ _. ⌜ now (answer .exit) ≡ three a b c (now (answer .entry)) ⌝ }
+    ensures { λ _. ⌜ now (answer .exit) ≡ copied (a ∷ b ∷ c ∷ []) (now (answer .entry)) ⌝ }
 {
     answer[0] = a;
     answer[1] = b;
@@ -32,8 +33,9 @@ fn put3(answer: &mut [u64], a: u64, b: u64, c: u64)
 #[no_mangle]
 pub extern "C" fn cuulipso_check(file: &[u8], answer: &mut [u64]) -> u8
     ensures { λ r.
-        ⌜ Written
-        (plainNumbers (verdictCarries (fileQuestions (now (file .entry))))) (now (answer .entry)) (now (answer .exit)) r ⌝ }
+        ⌜ Hands
+        (handing (plainNumbers (verdictCarries (fileQuestions (now (file .entry))))) nothing)
+        nothing nothing (now (answer .entry)) (now (answer .exit)) r ⌝ }
 {
     if answer.len() < 3 {
         return 4;
@@ -87,10 +89,11 @@ pub extern "C" fn cuulipso_solve(
     answer: &mut [u64],
 ) -> u8
     ensures { λ r.
-        ⌜ HandsBack
+        ⌜ Hands
+        (solutionHanded
         (solution
         (now (file .entry)) budget
-        (tables (now (values .entry)) (now (picks .entry)) (now (remembered .entry)) (now (walk .entry))))
+        (tables (now (values .entry)) (now (picks .entry)) (now (remembered .entry)) (now (walk .entry)))))
         (tables (now (values .entry)) (now (picks .entry)) (now (remembered .entry)) (now (walk .entry)))
         (tables (now (values .exit)) (now (picks .exit)) (now (remembered .exit)) (now (walk .exit)))
         (now (answer .entry)) (now (answer .exit)) r ⌝ }
@@ -125,7 +128,7 @@ pub extern "C" fn cuulipso_solve(
 // Writes three signed numbers to the front of a table that has room for them.
 fn put3_signed(answer: &mut [i64], a: i64, b: i64, c: i64)
     requires { ⌜ 3 ≤ length (now answer) ⌝ }
-    ensures { λ _. ⌜ now (answer .exit) ≡ three a b c (now (answer .entry)) ⌝ }
+    ensures { λ _. ⌜ now (answer .exit) ≡ copied (a ∷ b ∷ c ∷ []) (now (answer .entry)) ⌝ }
 {
     answer[0] = a;
     answer[1] = b;
@@ -142,9 +145,9 @@ pub extern "C" fn cuulipso_audit(
     answer: &mut [i64],
 ) -> u8
     ensures { λ r.
-        ⌜ Written
-        (signedNumbers (auditedCarries (audit (now (file .entry)) (now (values .entry)) (now (picks .entry)))))
-        (now (answer .entry)) (now (answer .exit)) r ⌝ }
+        ⌜ Hands
+        (handing (signedNumbers (auditedCarries (audit (now (file .entry)) (now (values .entry)) (now (picks .entry))))) nothing)
+        nothing nothing (now (answer .entry)) (now (answer .exit)) r ⌝ }
 {
     if answer.len() < 3 {
         return 4;
@@ -171,8 +174,8 @@ pub extern "C" fn cuulipso_audit(
 #[no_mangle]
 pub extern "C" fn cuulipso_set_form(file: &[u8], out: &mut [u8], answer: &mut [u64]) -> u8
     ensures { λ r.
-        ⌜ HandsOut
-        (exchange (now (file .entry)) (now (out .entry)))
+        ⌜ Hands
+        (writingHanded (exchange (now (file .entry)) (now (out .entry))))
         (now (out .entry)) (now (out .exit)) (now (answer .entry)) (now (answer .exit)) r ⌝ }
 {
     if answer.len() < 3 {

@@ -9,31 +9,30 @@ use model::Follower;
 ghost use mathlib.Core.Path.{_≡_};
 ghost use Prim.Native.Nat.{_≤_};
 ghost use lib.ListN.{length};
-ghost use Rattle.model.specs.Answers.{followCarries};
-ghost use Rattle.model.specs.Following.{opening, report};
-ghost use Rattle.model.specs.Interface.{HandsOn, Written, signedNumbers, followerIn};
+ghost use Rattle.model.specs.Following.{Report, opening, report};
+ghost use Rattle.model.specs.Interface.{Hands, reportHanded, followerIn};
+ghost use Rattle.model.specs.Promises.{Answered};
 ghost use Rattle.capi.specs.Steps.{Showable};
 
 // What a call hands back beside the answer's table: the record, and the status.
-struct Handed {
+struct Returned {
     follower: Follower,
     status: u8,
 }
 
-// Hands on what an opening or a report says: 3 done, with answer state, moves, seconds; 0 refused, with question, place, excess.
-fn hand_on(s: Stepped, answer: &mut [i64]) -> Handed
+// Hands on the opening or the report that `s` answers: 3 done, with answer state, moves, seconds; 0 refused, with question, place, excess.
+fn hand_on(s: Stepped, answer: &mut [i64]) -> Returned
     requires { ⌜ Showable s × (3 ≤ length (now answer)) ⌝ }
     ensures { λ r.
-        ⌜ (r .follower ≡ s .follower)
-        × Written
-        (signedNumbers (followCarries (s .answer) (s .follower))) (now (answer .entry)) (now (answer .exit)) (r .status) ⌝ }
+        ⌜ ((said : Report) (lent : Follower) → Answered (s .answer) (s .follower) said
+        → Hands (reportHanded said) lent (r .follower) (now (answer .entry)) (now (answer .exit)) (r .status)) ⌝ }
 {
     let w = s.follower;
     let said = s.answer;
     match said {
         FollowAnswer::Done => {
             put3_signed(answer, w.state as i64, w.moves as i64, w.seconds as i64);
-            Handed {
+            Returned {
                 follower: w,
                 status: 3,
             }
@@ -44,7 +43,7 @@ fn hand_on(s: Stepped, answer: &mut [i64]) -> Handed
             excess,
         } => {
             put3_signed(answer, question as i64, place as i64, excess);
-            Handed {
+            Returned {
                 follower: w,
                 status: 0,
             }
@@ -53,14 +52,14 @@ fn hand_on(s: Stepped, answer: &mut [i64]) -> Handed
 }
 
 // An opening on a record by value: 4 where `answer` has fewer than 3 entries, and then it and the record are as they were.
-fn opened(w: Follower, file: &[u8], values: &[u32], picks: &[u16], answer: &mut [i64]) -> Handed
+fn opened(w: Follower, file: &[u8], values: &[u32], picks: &[u16], answer: &mut [i64]) -> Returned
     ensures { λ r.
-        ⌜ HandsOn
-        (opening (now (file .entry)) (now (values .entry)) (now (picks .entry)) w)
+        ⌜ Hands
+        (reportHanded (opening (now (file .entry)) (now (values .entry)) (now (picks .entry)) w))
         w (r .follower) (now (answer .entry)) (now (answer .exit)) (r .status) ⌝ }
 {
     if answer.len() < 3 {
-        return Handed {
+        return Returned {
             follower: w,
             status: 4,
         };
@@ -76,14 +75,14 @@ fn reported(
     picks: &[u16],
     outcome: u64,
     answer: &mut [i64],
-) -> Handed
+) -> Returned
     ensures { λ r.
-        ⌜ HandsOn
-        (report (now (file .entry)) (now (values .entry)) (now (picks .entry)) w outcome)
+        ⌜ Hands
+        (reportHanded (report (now (file .entry)) (now (values .entry)) (now (picks .entry)) w outcome))
         w (r .follower) (now (answer .entry)) (now (answer .exit)) (r .status) ⌝ }
 {
     if answer.len() < 3 {
-        return Handed {
+        return Returned {
             follower: w,
             status: 4,
         };
@@ -121,8 +120,8 @@ pub extern "C" fn cuulipso_open(
     answer: &mut [i64],
 ) -> u8
     ensures { λ r.
-        ⌜ HandsOn
-        (opening (now (file .entry)) (now (values .entry)) (now (picks .entry)) (followerIn (now (follower .entry))))
+        ⌜ Hands
+        (reportHanded (opening (now (file .entry)) (now (values .entry)) (now (picks .entry)) (followerIn (now (follower .entry)))))
         (followerIn (now (follower .entry))) (followerIn (now (follower .exit)))
         (now (answer .entry)) (now (answer .exit)) r ⌝ }
 {
@@ -143,8 +142,8 @@ pub extern "C" fn cuulipso_report(
     answer: &mut [i64],
 ) -> u8
     ensures { λ r.
-        ⌜ HandsOn
-        (report (now (file .entry)) (now (values .entry)) (now (picks .entry)) (now (follower .entry)) outcome)
+        ⌜ Hands
+        (reportHanded (report (now (file .entry)) (now (values .entry)) (now (picks .entry)) (now (follower .entry)) outcome))
         (now (follower .entry)) (now (follower .exit)) (now (answer .entry)) (now (answer .exit)) r ⌝ }
 {
     let handed = reported(*follower, file, values, picks, outcome, answer);

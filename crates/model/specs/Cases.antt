@@ -32,7 +32,10 @@ use Rattle.model.specs.Lines.{codes, planText, answerLine, stateLines, s
 use Rattle.model.specs.Lines.{decimal, decimalFrom, auditLine}
 use Rattle.model.specs.Encoding.{partsTo, settingNumber, settingBytes, stateBytes, rowBytes, outcomeBytes, encode}
 use Rattle.model.specs.SetForm.{weightTo, gathered, inSetForm, setForm, exchangeQuestions, exchange}
+use Rattle.model.specs.Buffers.{copied}
 use Rattle.model.specs.Writing.{written, refused as write-refused}
+use Rattle.model.specs.Answers.{verdictCarries}
+use Rattle.model.specs.Interface.{plainNumbers}
 use Rattle.model.specs.Sheets.{rateLine, rateLines}
 use Rattle.model.specs.TableFiles.{bytes32, entries16, tableBytes, listTo}
 
@@ -223,7 +226,7 @@ cases =
     ∷ (printed oneState 1 ≡ codes "solved 2 0 1000\n0 1000 give 0\n")
     ∷ []
 
--- what else is worth computing: P and the one-state file in full, a line of the audit, the bytes of tables
+-- what else is worth computing: P and the one-state file in full, a line of the audit, the bytes of tables, a refusal as C gets it
 abbrev pub others : List (Type 0)
 others =
     (fileQuestions fileP ≡ passes)
@@ -238,6 +241,8 @@ others =
     ∷ (auditLine (audit fileP (369999 ∷ 300000 ∷ 0 ∷ []) picksP) ≡ codes "refused 19 0 -1\n")
     ∷ (bytes32 (258 ∷ []) ≡ 2 ∷ 1 ∷ 0 ∷ 0 ∷ [])
     ∷ (entries16 (2 ∷ 1 ∷ 7 ∷ []) ≡ 258 ∷ [])
+    ∷ (plainNumbers (verdictCarries (fileQuestions (rateP 9 0))) ≡ (0, 8, 1, 0))
+    ∷ (copied {A = ℕ} (8 ∷ 1 ∷ 0 ∷ []) (7 ∷ 7 ∷ 7 ∷ 7 ∷ []) ≡ 8 ∷ 1 ∷ 0 ∷ 7 ∷ [])
     ∷ []
 
 -- the cases of document 02's requests
@@ -349,7 +354,7 @@ computed = (
   refl and refl and refl and refl and refl and refl and refl and refl and refl and refl
       and refl and refl and refl and refl and refl and refl and refl and refl and refl and tt,
   refl and refl and refl and refl and refl and refl and refl and refl and refl and refl
-      and refl and refl and tt,
+      and refl and refl and refl and refl and tt,
   refl and refl and refl and refl and refl and refl and refl and refl
       and refl and refl and refl and refl and refl and refl and refl and refl
       and refl and refl and refl and refl and refl and refl and refl and refl and refl

@@ -1,14 +1,15 @@
 -- `cuulipso_check` hands back the numbers of the file's verdict, or 4 where there is no room.
 -- Made by `places make` from answers/cuulipso_check.ans: edit that file, and not this one.
-use borrow.Author.Tests.{le-leb, lt-leb}
-use mathlib.Core.Path.{_∙_, sym, ap}
+use mathlib.Core.Path.{refl}
 use Rattle.model.specs.Answers.{fileCarries}
+use Rattle.model.specs.Interface.{plainNumbers}
+use Rattle.capi.proofs.Handing.{no-room, answer-handed}
 use borrow.Author.Needs.{needs}
 use Rattle.capi.proofs.cuulipso_check.Statement.{statement}
 use Rattle.capi.proofs.cuulipso_check.Tie as tie
 
 returns : tie.Need-returns
-returns c = record { status-is = simp (lt-leb _ _ (c .if1 .taken)); table-is = simp (lt-leb _ _ (c .if1 .taken)) }
+returns c = no-room (c .if1 .taken)
 
 check-requires : tie.Need-check-requires
 check-requires c κs = search needs
@@ -36,16 +37,14 @@ same-length c = search needs
 
 returns-2 : tie.Need-returns-2
 returns-2 c =
-    let e = sym (c .before .before .before .before .before .before .check .ensures) ∙ ap fileCarries (c .before .before .before .before .enum-told .given .1) in
-    record { status-is = simp (le-leb _ _ (c .before .before .before .before .before .before .before .if1 .left), e); table-is = c .before .before .put3 .ensures ∙ simp (le-leb _ _ (c .before .before .before .before .before .before .before .if1 .left), e) }
+    answer-handed plainNumbers fileCarries (c .before .before .before .before .before .before .check .ensures) refl (c .before .before .before .before .enum-told .given .1) (c .before .before .before .before .before .before .before .if1 .left) (c .before .before .put3 .ensures)
 
 same-length-2 : tie.Need-same-length-2
 same-length-2 c = search needs
 
 returns-3 : tie.Need-returns-3
 returns-3 c =
-    let e = sym (c .before .before .before .before .before .before .before .check .ensures) ∙ ap fileCarries (c .before .before .before .before .before .said .given .1) in
-    record { status-is = simp (le-leb _ _ (c .before .before .before .before .before .before .before .before .if1 .left), e); table-is = c .before .before .put32 .ensures ∙ simp (le-leb _ _ (c .before .before .before .before .before .before .before .before .if1 .left), e) }
+    answer-handed plainNumbers fileCarries (c .before .before .before .before .before .before .before .check .ensures) refl (c .before .before .before .before .before .said .given .1) (c .before .before .before .before .before .before .before .before .if1 .left) (c .before .before .put32 .ensures)
 
 pub cuulipso-check-spec : {M : Type 1} → statement M
 cuulipso-check-spec =

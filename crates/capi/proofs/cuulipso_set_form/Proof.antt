@@ -1,18 +1,14 @@
 -- `cuulipso_set_form` hands back the numbers and the output of the exchange, or 4 where there is no room.
 -- Made by `places make` from answers/cuulipso_set_form.ans: edit that file, and not this one.
-use borrow.Author.Tests.{le-leb, lt-leb}
-use mathlib.Core.Path.{_∙_, sym, ap}
 use Rattle.model.specs.Answers.{writeCarries}
+use Rattle.model.specs.Interface.{plainNumbers}
+use Rattle.capi.proofs.Handing.{no-room, answer-handed}
 use borrow.Author.Needs.{needs}
 use Rattle.capi.proofs.cuulipso_set_form.Statement.{statement}
 use Rattle.capi.proofs.cuulipso_set_form.Tie as tie
 
 returns : tie.Need-returns
-returns c =
-    record {
-      numbers-are = record { status-is = simp (lt-leb _ _ (c .if1 .taken)); table-is = simp (lt-leb _ _ (c .if1 .taken)) };
-      output-is = simp (lt-leb _ _ (c .if1 .taken));
-    }
+returns c = no-room (c .if1 .taken)
 
 set-form-requires : tie.Need-set-form-requires
 set-form-requires c κs = search needs
@@ -46,12 +42,8 @@ same-length-2 c = search needs
 
 returns-2 : tie.Need-returns-2
 returns-2 c =
-    let e = sym (c .before .before .before .before .before .before .before .before .before .set-form .ensures .answer-is) ∙ ap writeCarries (c .before .before .before .before .before .said .given .1) in
-    record {
-      numbers-are =
-          record { status-is = simp (le-leb _ _ (c .before .before .before .before .before .before .before .before .before .before .before .if1 .left), e); table-is = c .before .before .put3 .ensures ∙ simp (le-leb _ _ (c .before .before .before .before .before .before .before .before .before .before .before .if1 .left), e) };
-      output-is = simp (le-leb _ _ (c .before .before .before .before .before .before .before .before .before .before .before .if1 .left)) (c .before .before .before .before .before .before .before .before .before .set-form .ensures .left-is);
-    }
+    answer-handed plainNumbers writeCarries (c .before .before .before .before .before .before .before .before .before .set-form .ensures .answer-is) (c .before .before .before .before .before .before .before .before .before .set-form .ensures .left-is) (c .before .before .before .before .before .said .given .1)
+    (c .before .before .before .before .before .before .before .before .before .before .before .if1 .left) (c .before .before .put3 .ensures)
 
 same-length-3 : tie.Need-same-length-3
 same-length-3 c = search needs
@@ -61,12 +53,8 @@ same-length-4 c = search needs
 
 returns-3 : tie.Need-returns-3
 returns-3 c =
-    let e = sym (c .before .before .before .before .before .before .before .before .before .set-form .ensures .answer-is) ∙ ap writeCarries (c .before .before .before .before .before .said2 .given .1) in
-    record {
-      numbers-are =
-          record { status-is = simp (le-leb _ _ (c .before .before .before .before .before .before .before .before .before .before .before .if1 .left), e); table-is = c .before .before .put32 .ensures ∙ simp (le-leb _ _ (c .before .before .before .before .before .before .before .before .before .before .before .if1 .left), e) };
-      output-is = simp (le-leb _ _ (c .before .before .before .before .before .before .before .before .before .before .before .if1 .left)) (c .before .before .before .before .before .before .before .before .before .set-form .ensures .left-is);
-    }
+    answer-handed plainNumbers writeCarries (c .before .before .before .before .before .before .before .before .before .set-form .ensures .answer-is) (c .before .before .before .before .before .before .before .before .before .set-form .ensures .left-is) (c .before .before .before .before .before .said2 .given .1)
+    (c .before .before .before .before .before .before .before .before .before .before .before .if1 .left) (c .before .before .put32 .ensures)
 
 pub cuulipso-set-form-spec : {M : Type 1} → statement M
 cuulipso-set-form-spec =

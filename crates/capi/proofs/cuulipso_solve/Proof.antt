@@ -1,18 +1,14 @@
 -- `cuulipso_solve` hands back the numbers and the tables of the solution, or 4 where there is no room.
 -- Made by `places make` from answers/cuulipso_solve.ans: edit that file, and not this one.
-use borrow.Author.Tests.{le-leb, lt-leb}
-use mathlib.Core.Path.{_∙_, sym, ap}
 use Rattle.model.specs.Answers.{solveCarries}
+use Rattle.model.specs.Interface.{plainNumbers}
+use Rattle.capi.proofs.Handing.{no-room, answer-handed}
 use borrow.Author.Needs.{needs}
 use Rattle.capi.proofs.cuulipso_solve.Statement.{statement}
 use Rattle.capi.proofs.cuulipso_solve.Tie as tie
 
 returns : tie.Need-returns
-returns c =
-    record {
-      numbers-are = record { status-is = simp (lt-leb _ _ (c .if1 .taken)); table-is = simp (lt-leb _ _ (c .if1 .taken)) };
-      tables-are = simp (lt-leb _ _ (c .if1 .taken));
-    }
+returns c = no-room (c .if1 .taken)
 
 solve-requires : tie.Need-solve-requires
 solve-requires c κs = search needs
@@ -61,12 +57,8 @@ same-length-5 c = search needs
 
 returns-2 : tie.Need-returns-2
 returns-2 c =
-    let e = sym (c .before .before .before .before .before .before .before .before .before .before .before .before .before .before .before .solve .ensures .0 .answer) ∙ ap solveCarries (c .before .before .before .before .before .said .given .1) in
-    record {
-      numbers-are =
-          record { status-is = simp (le-leb _ _ (c .before .before .before .before .before .before .before .before .before .before .before .before .before .before .before .before .before .before .before .before .if1 .left), e); table-is = c .before .before .put3 .ensures ∙ simp (le-leb _ _ (c .before .before .before .before .before .before .before .before .before .before .before .before .before .before .before .before .before .before .before .before .if1 .left), e) };
-      tables-are = simp (le-leb _ _ (c .before .before .before .before .before .before .before .before .before .before .before .before .before .before .before .before .before .before .before .before .if1 .left)) (c .before .before .before .before .before .before .before .before .before .before .before .before .before .before .before .solve .ensures .0 .left);
-    }
+    answer-handed plainNumbers solveCarries (c .before .before .before .before .before .before .before .before .before .before .before .before .before .before .before .solve .ensures .0 .answer) (c .before .before .before .before .before .before .before .before .before .before .before .before .before .before .before .solve .ensures .0 .left) (c .before .before .before .before .before .said .given .1)
+    (c .before .before .before .before .before .before .before .before .before .before .before .before .before .before .before .before .before .before .before .before .if1 .left) (c .before .before .put3 .ensures)
 
 same-length-6 : tie.Need-same-length-6
 same-length-6 c = search needs
@@ -85,12 +77,8 @@ same-length-10 c = search needs
 
 returns-3 : tie.Need-returns-3
 returns-3 c =
-    let e = sym (c .before .before .before .before .before .before .before .before .before .before .before .before .before .before .before .solve .ensures .0 .answer) ∙ ap solveCarries (c .before .before .before .before .before .said2 .given .1) in
-    record {
-      numbers-are =
-          record { status-is = simp (le-leb _ _ (c .before .before .before .before .before .before .before .before .before .before .before .before .before .before .before .before .before .before .before .before .if1 .left), e); table-is = c .before .before .put32 .ensures ∙ simp (le-leb _ _ (c .before .before .before .before .before .before .before .before .before .before .before .before .before .before .before .before .before .before .before .before .if1 .left), e) };
-      tables-are = simp (le-leb _ _ (c .before .before .before .before .before .before .before .before .before .before .before .before .before .before .before .before .before .before .before .before .if1 .left)) (c .before .before .before .before .before .before .before .before .before .before .before .before .before .before .before .solve .ensures .0 .left);
-    }
+    answer-handed plainNumbers solveCarries (c .before .before .before .before .before .before .before .before .before .before .before .before .before .before .before .solve .ensures .0 .answer) (c .before .before .before .before .before .before .before .before .before .before .before .before .before .before .before .solve .ensures .0 .left) (c .before .before .before .before .before .said2 .given .1)
+    (c .before .before .before .before .before .before .before .before .before .before .before .before .before .before .before .before .before .before .before .before .if1 .left) (c .before .before .put32 .ensures)
 
 same-length-11 : tie.Need-same-length-11
 same-length-11 c = search needs
@@ -109,12 +97,8 @@ same-length-15 c = search needs
 
 returns-4 : tie.Need-returns-4
 returns-4 c =
-    let e = sym (c .before .before .before .before .before .before .before .before .before .before .before .before .before .before .before .solve .ensures .0 .answer) ∙ ap solveCarries (c .before .before .before .before .before .said3 .given .1) in
-    record {
-      numbers-are =
-          record { status-is = simp (le-leb _ _ (c .before .before .before .before .before .before .before .before .before .before .before .before .before .before .before .before .before .before .before .before .if1 .left), e); table-is = c .before .before .put33 .ensures ∙ simp (le-leb _ _ (c .before .before .before .before .before .before .before .before .before .before .before .before .before .before .before .before .before .before .before .before .if1 .left), e) };
-      tables-are = simp (le-leb _ _ (c .before .before .before .before .before .before .before .before .before .before .before .before .before .before .before .before .before .before .before .before .if1 .left)) (c .before .before .before .before .before .before .before .before .before .before .before .before .before .before .before .solve .ensures .0 .left);
-    }
+    answer-handed plainNumbers solveCarries (c .before .before .before .before .before .before .before .before .before .before .before .before .before .before .before .solve .ensures .0 .answer) (c .before .before .before .before .before .before .before .before .before .before .before .before .before .before .before .solve .ensures .0 .left) (c .before .before .before .before .before .said3 .given .1)
+    (c .before .before .before .before .before .before .before .before .before .before .before .before .before .before .before .before .before .before .before .before .if1 .left) (c .before .before .put33 .ensures)
 
 pub cuulipso-solve-spec : {M : Type 1} → statement M
 cuulipso-solve-spec =

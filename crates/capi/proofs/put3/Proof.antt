@@ -1,7 +1,7 @@
--- `put3` writes three numbers: the stores as they stand.
+-- `put3` writes three numbers: three stores are three entries at the front.
 -- Made by `places make` from answers/put3.ans: edit that file, and not this one.
 use lib.ListN.{length-set}
-use borrow.Author.Needs.{needs}
+use Rattle.capi.proofs.Handing.{stored}
 use native.Mathlib.Omega.{arith}
 use Rattle.capi.proofs.put3.Statement.{statement}
 use Rattle.capi.proofs.put3.Tie as tie
@@ -19,7 +19,7 @@ same-length : tie.Need-same-length
 same-length c = simp length-set
 
 returns : tie.Need-returns
-returns c = search needs
+returns c = stored (c .args .a) (c .args .b) (c .args .c) (c .args .answer .now) (c .pre)
 
 pub put3-spec : {M : Type 1} → statement M
 put3-spec =

@@ -48,12 +48,12 @@ use denote.Triple.Walked.{walkOf, Walks, ends-at, walked, walk-meets}
 use denote.Exit.{yes}
 use Rattle.model.specs.declared.Follower.{Follower}
 use Rattle.model.specs.Following.{Report, report as model-report}
-use Rattle.model.specs.Interface.{HandsOn}
+use Rattle.model.specs.Interface.{Hands, reportHanded}
 use Rattle.model.proofs.Follower as Rec
 use Rattle.model.proofs.Follower.Laws as Rec′
-use Rattle.capi.specs.declared.shift.Handed.{Handed}
-use Rattle.capi.proofs.shift.Handed as Both
-use Rattle.capi.proofs.shift.Handed.Laws as Both′
+use Rattle.capi.specs.declared.shift.Returned.{Returned}
+use Rattle.capi.proofs.shift.Returned as Both
+use Rattle.capi.proofs.shift.Returned.Laws as Both′
 use Rattle.capi.proofs.shift.reported as reported
 use Rattle.capi.proofs.shift.reported.Symbol as reported-def
 use Rattle.capi.proofs.shift.reported.Symbol.{name as #capi·reported}
@@ -122,10 +122,10 @@ abbrev rec-val : Follower → Val
 rec-val = LL.val Rec.the-type Rec′.the-laws
 
 -- whoever holds what `reported` returns knows each of the two parts to be at its machine value
-rec-is : (r : Handed) {v : Val} → Is Both.the-row r (v ∷ []) → Is Rec.the-row (r .follower) (rec-val (r .follower) ∷ [])
+rec-is : (r : Returned) {v : Val} → Is Both.the-row r (v ∷ []) → Is Rec.the-row (r .follower) (rec-val (r .follower) ∷ [])
 rec-is r is = LL.owed Both.the-type Both′.the-laws r _ is .0
 
-status-is : (r : Handed) {v : Val} → Is Both.the-row r (v ∷ []) → Is u8 (r .status) (uint-vals w8 (r .status))
+status-is : (r : Returned) {v : Val} → Is Both.the-row r (v ∷ []) → Is u8 (r .status) (uint-vals w8 (r .status))
 status-is r is = LL.owed Both.the-type Both′.the-laws r _ is .1 .0
 
 module _ {M : Type 1} (𝓤 : URA M) (H : Heap 𝓤) (A : Atoms 𝓤) (W : Given 𝓤 H A) (at-mem : Memory → SProp 𝓤)
@@ -208,13 +208,13 @@ module _ {M : Type 1} (𝓤 : URA M) (H : Heap 𝓤) (A : Atoms 𝓤) (W : Given
     goes : ent 𝓤 (⋆ 𝓤 H A Passed) (Called .pre to-reported)
     goes = qed W Passed ∵ move ! (1 ∷ 2 ∷ []) $ fjoin ! $ move ! (1 ∷ 0 ∷ []) $ join ! $ frame ! $ done !
 
-    abbrev Says : Handed → List ℤ → Type 0
-    Says r zs = HandsOn moved h (r .follower) ys zs (r .status)
+    abbrev Says : Returned → List ℤ → Type 0
+    Says r zs = Hands (reportHanded moved) h (r .follower) ys zs (r .status)
 
     abbrev Last : Type 0
     Last = Lasts reported.ended (slices κs) (h, t)
 
-    abbrev Ensured : Handed → SProp 𝓤
+    abbrev Ensured : Returned → SProp 𝓤
     Ensured = ensured 𝓤 H A reported.ended (reported.clauses 𝓤 H A at-mem run) (slices κs) (h, t) tt
 
     -- the exit: what it is at, what is held there with the record h′ behind the reference and the numbers zs in the table, and that
@@ -230,7 +230,7 @@ module _ {M : Type 1} (𝓤 : URA M) (H : Heap 𝓤) (A : Atoms 𝓤) (W : Given
         ‵ (fobs γ (Rec.the-row .coded .code h′)) ∷ ‵ (fbor (κs .1 .1 .1 .0) (Body (mem Rec.the-row) b o γ))
         ∷ ‵ (flft (κs .1 .1 .1 .0) (qs .1 .1 .1 .0)) ∷ raw Tokens ∷ ‵ (finally i64 γ′ zs) ∷ []
 
-    exits : {r : Handed} {zs : List ℤ} → Is u8 (r .status) (uint-vals w8 (r .status)) → Says r zs → length zs ≡ length ys
+    exits : {r : Returned} {zs : List ℤ} → Is u8 (r .status) (uint-vals w8 (r .status)) → Says r zs → length zs ≡ length ys
         → ent 𝓤 (⋆ 𝓤 H A (Held (r .follower) zs)) (Post (only (uint-vals w8 (r .status))))
     exits {r} {zs} is e l =
         qed W (Held (r .follower) zs) ∵
@@ -290,7 +290,7 @@ module _ {M : Type 1} (𝓤 : URA M) (H : Heap 𝓤) (A : Atoms 𝓤) (W : Given
         (and-then ! (load ! (from ! (stop !)) (look ! 23 refl)) (and-then ! (load ! (from ! (stop !)) (look ! 21 refl))
         (and-then ! (load ! (from ! (stop !)) (look ! 19 refl)) (and-then ! (load ! (from ! (stop !)) (look ! 17 refl))
         (and-then ! (load ! (from ! (stop !)) (look ! 5 refl)) (no-more !)))))))
-        (λ v. use1 W (later (some (λ (r : Handed). (raw Tokens ⊛ ‵ (Both.the-row .own r (v ∷ []))) ⊛ raw (Ensured r))))
+        (λ v. use1 W (later (some (λ (r : Returned). (raw Tokens ⊛ ‵ (Both.the-row .own r (v ∷ []))) ⊛ raw (Ensured r))))
         (id⊢ 𝓤 _) $ await ! tt $ pick ! (λ r. split ! $ move ! (1 ∷ []) $
         use1 W (some (λ (ws : Last). ‵ (lasts reported.ended (slices κs) (h, t) ws) ⊛ raw (fact 𝓤 (Says r (ws .1 .1 .1 .1 .1 .0)))))
         (id⊢ 𝓤 _) $ pick ! (λ ws. split ! $ move ! (1 ∷ []) $ heard ! (Says r (ws .1 .1 .1 .1 .1 .0)) (λ e.

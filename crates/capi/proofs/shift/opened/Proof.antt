@@ -1,12 +1,12 @@
 -- `opened` hands on the opening, or 4 where there is no room.
 -- Made by `places make` from answers/shift/opened.ans: edit that file, and not this one.
-use Rattle.capi.proofs.Handing.{opening-fits, hands-on, no-room}
+use Rattle.capi.proofs.Handing.{opening-fits, no-room}
 use borrow.Author.Needs.{needs}
 use Rattle.capi.proofs.shift.opened.Statement.{statement}
 use Rattle.capi.proofs.shift.opened.Tie as tie
 
 returns : tie.Need-returns
-returns c = no-room _ _ _ (c .if1 .taken)
+returns c = no-room (c .if1 .taken)
 
 open-at-start-requires : tie.Need-open-at-start-requires
 open-at-start-requires c κs = search needs
@@ -19,7 +19,7 @@ same-length : tie.Need-same-length
 same-length c = search needs
 
 returns-2 : tie.Need-returns-2
-returns-2 c = hands-on (c .before .before .before .open-at-start .ensures) (c .before .before .before .before .if1 .left) (c .before .hand-on .ensures)
+returns-2 c = c .before .hand-on .ensures _ _ (c .before .before .before .open-at-start .ensures)
 
 pub opened-spec : {M : Type 1} → statement M
 opened-spec =

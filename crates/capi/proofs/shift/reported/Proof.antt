@@ -1,12 +1,12 @@
 -- `reported` hands on the report, or 4 where there is no room.
 -- Made by `places make` from answers/shift/reported.ans: edit that file, and not this one.
-use Rattle.capi.proofs.Handing.{report-fits, hands-on, no-room}
+use Rattle.capi.proofs.Handing.{report-fits, no-room}
 use borrow.Author.Needs.{needs}
 use Rattle.capi.proofs.shift.reported.Statement.{statement}
 use Rattle.capi.proofs.shift.reported.Tie as tie
 
 returns : tie.Need-returns
-returns c = no-room _ _ _ (c .if1 .taken)
+returns c = no-room (c .if1 .taken)
 
 step-requires : tie.Need-step-requires
 step-requires c κs = search needs
@@ -19,7 +19,7 @@ same-length : tie.Need-same-length
 same-length c = search needs
 
 returns-2 : tie.Need-returns-2
-returns-2 c = hands-on (c .before .before .before .step .ensures) (c .before .before .before .before .if1 .left) (c .before .hand-on .ensures)
+returns-2 c = c .before .hand-on .ensures _ _ (c .before .before .before .step .ensures)
 
 pub reported-spec : {M : Type 1} → statement M
 reported-spec = tie.close (tie.spec returns step-requires hand-on-requires same-length returns-2)
