@@ -3,6 +3,7 @@
 use mathlib.Core.Path.{_≡_, refl, sym, _∙_, ap, ap₂, subst}
 use Prim.Native.Nat.{ℕ, zero, suc, _+_, _*_, _/_, _%_, _<_}
 use native.Mathlib.Nat.{eq-or-lt-of-le, le-of-suc-le-suc}
+use native.Mathlib.Numerals.{add-one}
 use native.Mathlib.Omega.{arith}
 use mathlib.Core.List.{List, [], _∷_, _++_, append-nil, append-assoc}
 use mathlib.Core.Logic.{_⊎_, inl, inr}
@@ -79,6 +80,10 @@ u32-at {f} {i} x h l =
     omega (arith, two-bytes a b (c ∷ d ∷ []) h, two-bytes c d [] high)
 
 -- parts in a row
+
+pub parts-next : (g : ℕ → List ℕ) (k : ℕ) → partsTo g (k + 1) ≡ partsTo g k ++ g k
+unfolding partsTo
+parts-next g k = rw (add-one k) refl
 
 pub parts-length
     : (g : ℕ → List ℕ) (size : ℕ → ℕ) → size 0 ≡ 0 → ((j : ℕ) → size (suc j) ≡ size j + length (g j)) → (k : ℕ)

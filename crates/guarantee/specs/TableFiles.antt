@@ -90,6 +90,11 @@ unfolding numberBytes
 number-length zero x = refl
 number-length (suc width) x = ap suc (number-length width (x / 256))
 
+-- a number in 4 bytes is its lower two bytes, and then its upper two
+pub two-and-two : (x : ℕ) → numberBytes 2 x ++ numberBytes 2 (x / 65536) ≡ numberBytes 4 x
+unfolding numberBytes
+two-and-two x = let half : x / 65536 ≡ x / 256 / 256 = omega arith in rw half refl
+
 pub bytes-length : (width : ℕ) (t : List ℕ) → length (tableBytes width t) ≡ width * length t
 unfolding tableBytes
 bytes-length width [] = omega arith

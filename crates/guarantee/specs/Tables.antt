@@ -1,7 +1,7 @@
 -- Laws of tables, read with default 0: what holds of all entries after a store, what a filled table holds, and a rule of a table
 -- that is tested over the whole of it. No index bound is asked where a store beyond the end changes nothing.
-use mathlib.Core.Path.{_≡_, refl, ap, _∙_}
-use Prim.Native.Nat.{ℕ, zero, suc, _+_, _≤_, _<_}
+use mathlib.Core.Path.{_≡_, refl, sym, ap, _∙_}
+use Prim.Native.Nat.{ℕ, zero, suc, _+_, _-_, _≤_, _<_}
 use native.Mathlib.Decide.{ℕ-discrete, decLt}
 use native.Mathlib.Numerals.{add-one}
 use native.Mathlib.Omega.{arith}
@@ -9,8 +9,8 @@ use mathlib.Core.Bool.{Bool, true, _&&_}
 use mathlib.Core.List.{List, [], _∷_}
 use borrow.Author.Tests.{eqb-true}
 use lib.Dec.{eqb}
-use lib.ListN.{getD, set, length, length-set}
-use lib.Seq.{getD-set-same, getD-set-other, set-out}
+use lib.ListN.{getD, set, length, drop, length-set}
+use lib.Seq.{getD-set-same, getD-set-other, set-out, drop-drop}
 use Rattle.model.specs.Rounds.{fillTo}
 use Rattle.guarantee.specs.Searches.{and-left, and-right}
 
@@ -22,6 +22,12 @@ stored P l i x all one j = go (ℕ-discrete j i) (decLt i (length l))
     go (no ne) d = rw (getD-set-other l i j x 0 ne) (all j)
     go (yes e) (yes h) = rw e (rw (getD-set-same l i x 0 h) one)
     go (yes e) (no h) = rw (set-out l i x (omega arith)) (all j)
+
+-- what is the same from m on is the same further on
+pub same-further : (a b : List ℕ) (m n : ℕ) → m ≤ n → drop m b ≡ drop m a → drop n b ≡ drop n a
+same-further a b m n l e =
+    let d : m + (n - m) ≡ n = omega arith in
+    rw d at (sym (drop-drop (n - m) m b) ∙ ap (drop (n - m)) e ∙ drop-drop (n - m) m a)
 
 pub fill-length : (g : ℕ → ℕ) (l : List ℕ) (k : ℕ) → length (fillTo g l k) ≡ length l
 unfolding fillTo

@@ -9,7 +9,6 @@ use mathlib.Core.List.{List, []}
 use mathlib.Core.Logic.{_⊎_}
 use lib.Dec.{eqb}
 use lib.ListN.{getD, length, take, drop}
-use lib.Seq.{drop-drop}
 use borrow.Author.Tests.{ne-eqb}
 use Rattle.model.specs.Limits.{giveUp, maxRows, maxBudget}
 use Rattle.model.specs.Problem.{Problem, ownRow}
@@ -23,6 +22,7 @@ use Rattle.guarantee.specs.Sound.{Sound}
 use Rattle.guarantee.specs.Backups.{walk-opens, round-sound, run-stops}
 use Rattle.guarantee.specs.Evaluations.{round-count}
 use Rattle.guarantee.specs.Solved.{Still, round-still, resting-accepted}
+use Rattle.guarantee.specs.Tables.{same-further}
 use Rattle.guarantee.specs.Walks.{reached-state, reached-marked}
 use Rattle.walking.specs.Costs.{Costed}
 use Rattle.walking.specs.Walked.{Walked, walked-start, walked-costed, walked-least}
@@ -30,12 +30,6 @@ use Rattle.backing.specs.Backable.{countBound, machine, Backable, Listed}
 use Rattle.solving.specs.declared.run.RoundDone.{RoundDone}
 use Rattle.solving.specs.declared.run.Ended.{Ended}
 use Rattle.solving.specs.Runs.{machineWith, endedAs, Runnable, Rounded, Begun}
-
--- what stays beyond a place stays beyond every later one
-later-beyond : (k n : ℕ) (l l′ : List ℕ) → k ≤ n → drop k l′ ≡ drop k l → drop n l′ ≡ drop n l
-later-beyond k n l l′ h e =
-    let m : k + (n - k) ≡ n = omega arith in
-    rw (← m) (sym (drop-drop (n - k) k l′) ∙ (ap (drop (n - k)) e ∙ drop-drop (n - k) k l))
 
 module _ {f index : List ℕ} {t : Tables} (h : Runnable f index t) where
   abbrev p : Problem
@@ -117,7 +111,7 @@ module _ {f index : List ℕ} {t : Tables} (h : Runnable f index t) where
           least = least;
           no-least = no-least;
           few = rw listed (w .few);
-          beyond = later-beyond r (p .states) (t .walk-list) list′ (w .few) (w .rest);
+          beyond = same-further (t .walk-list) list′ r (p .states) (w .few) (w .rest);
           fine = fine;
           no-row = no-row;
         }

@@ -8,22 +8,18 @@ use mathlib.Core.Bool.{Bool, true, false}
 use mathlib.Core.List.{List, [], _∷_, _++_}
 use lib.Dec.{eqb}
 use lib.ListN.{getD, set, length, take, drop, length-set}
-use lib.Seq.{take-suc-set, drop-set-lt, drop-drop}
+use lib.Seq.{take-suc-set, drop-set-lt}
 use borrow.Author.Tests.{eq-eqb, ne-eqb}
 use Rattle.model.specs.Bytes.{u16At}
 use Rattle.model.specs.Sections.{problemOf}
 use Rattle.model.specs.Value.{byState}
 use Rattle.model.specs.Walk.{Trail, next, join, visitOn, visitState, visitOutcomes}
 use Rattle.guarantee.specs.Graphs.{VisitReady, each, unmarked-mark, set-entry, step-none, step-then, state-visited}
+use Rattle.guarantee.specs.Tables.{same-further}
 use Rattle.guarantee.specs.Walks.{next-state}
 use Rattle.walking.specs.Trails.{Outcomes, leads, leadsFrom, trail, unmarkedStates, Stretch}
 use Rattle.walking.specs.Trails.{visitedState, visitedOutcomes, Under, Over}
 use Rattle.walking.proofs.PickedParts.{leads-more, outcomes-more}
-
-drop-more {ℓ} : {A : Type ℓ} (r k : ℕ) (l l′ : List A) → r ≤ k → drop r l ≡ drop r l′ → drop k l ≡ drop k l′
-drop-more r k l l′ h e =
-    let split : k ≡ r + (k - r) = omega arith in
-    rw split (sym (drop-drop (k - r) r l) ∙ ap (drop (k - r)) e ∙ drop-drop (k - r) r l′)
 
 -- a depth of the unmarked states is enough for a visit
 under-ready : {f index picks marks list : List ℕ} {n : ℕ} → Under f index picks marks list n
@@ -94,7 +90,7 @@ module _ {f index picks marks list : List ℕ} {n : ℕ} (u : Under f index pick
         stretch = state-stretch _ (listed _ (omega arith));
         grows = omega (arith, o .grows);
         room = omega (arith, o .room, mark-left);
-        rest = drop-set-lt (k + 1) list1 k s (omega arith) ∙ drop-more k (k + 1) list1 list (omega arith) (o .rest);
+        rest = drop-set-lt (k + 1) list1 k s (omega arith) ∙ same-further list list1 k (k + 1) (omega arith) (o .rest);
       }
         where
           pushed : take k list1 ++ (s ∷ []) ≡ take (k + 1) (set list1 k s)
@@ -200,6 +196,6 @@ module _ {f index picks : List ℕ} {from to : ℕ} {marks₀ list₀ : List ℕ
           stretch = step-then _ _ _ (λ s. s < problemOf f .states) _ _ _ (l .stretch) (o .stretch);
           grows = omega (arith, l .grows, o .grows);
           room = omega (arith, l .room, o .room);
-          rest = o .rest ∙ drop-more k k′ list list₀ (o .grows) (l .rest);
+          rest = o .rest ∙ same-further list₀ list k k′ (o .grows) (l .rest);
           long = long ∙ l .long;
         }
