@@ -1,6 +1,5 @@
 -- Laws that the proofs of `printing` cite.
 pub mod Widths
-pub mod Putting
 pub mod Digits
 pub mod Signed
 pub mod Listing

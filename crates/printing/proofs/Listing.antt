@@ -4,7 +4,7 @@ use Prim.Native.Nat.{ℕ, _+_, _≤_, _<_}
 use native.Mathlib.Omega.{arith}
 use native.Mathlib.Numerals.{add-one}
 use mathlib.Core.Bool.{Bool, true, false, _||_, or-true, or-false}
-use mathlib.Core.List.{List, [], _++_, append-nil}
+use mathlib.Core.List.{List, [], _++_}
 use lib.Dec.{eqb}
 use lib.ListN.{length, getD, set, take, drop, replicate, drop-of-length-le}
 use lib.Seq.{drop-cons}
@@ -13,7 +13,7 @@ use Rattle.model.specs.Limits.{giveUp, maxStates}
 use Rattle.model.specs.Lines.{codes, decimal, blankNumber, pickOn, listed, lineOn, stateLine, stateLines}
 use Rattle.guarantee.specs.Graphs.{set-entry, clear-entry}
 use Rattle.model.specs.Buffers.{Holds}
-use Rattle.printing.proofs.Putting.{after, same, stands}
+use Rattle.writing.specs.Putting.{after, nothing}
 
 module _ (s : ℕ) (walk : List ℕ) (k : ℕ) where
   pub listed-here : k < length walk → getD walk k 0 ≡ s → listed s (drop k walk) ≡ true
@@ -76,12 +76,11 @@ pub state-put
     → Holds d e l (take k d ++ blankNumber m) → Holds e g n (take l e ++ codes "\n")
     → Holds out g n (take at out ++ stateLine s v r m)
 unfolding stateLine
-state-put {out} at s v r m number value pick remainder end =
-    let front = take at out in
-    let to-value = after front (decimal s) (blankNumber v) number value in
-    let to-pick = after front (decimal s ++ blankNumber v) (pickOn (eqb r giveUp) r) to-value pick in
-    let to-remainder = after front (decimal s ++ blankNumber v ++ pickOn (eqb r giveUp) r) (blankNumber m) to-pick remainder in
-    after front (decimal s ++ blankNumber v ++ pickOn (eqb r giveUp) r ++ blankNumber m) (codes "\n") to-remainder end
+state-put at s v r m number value pick remainder end =
+    let to-value = after at (decimal s) (blankNumber v) number value in
+    let to-pick = after at (decimal s ++ blankNumber v) (pickOn (eqb r giveUp) r) to-value pick in
+    let to-remainder = after at (decimal s ++ blankNumber v ++ pickOn (eqb r giveUp) r) (blankNumber m) to-pick remainder in
+    after at (decimal s ++ blankNumber v ++ pickOn (eqb r giveUp) r ++ blankNumber m) (codes "\n") to-remainder end
 
 -- a line where the state is marked
 pub line-put
@@ -91,4 +90,4 @@ line-put mark at line e h = rw (eq-eqb mark 1 e) h
 
 pub line-left
     : (mark at : ℕ) (out line : List ℕ) → (mark ≡ 1 → ⊥) → at ≤ length out → Holds out out at (take at out ++ lineOn (eqb mark 1) line)
-line-left mark at out line ne h = rw (ne-eqb mark 1 ne) (same (sym (append-nil (take at out))) (stands out at h))
+line-left mark at out line ne h = rw (ne-eqb mark 1 ne) (nothing out at refl h)

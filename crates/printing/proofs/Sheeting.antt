@@ -8,16 +8,16 @@ use Rattle.model.specs.Buffers.{Holds}
 use Rattle.model.specs.Limits.{minRate}
 use Rattle.model.specs.Lines.{codes, decimal, blankNumber}
 use Rattle.model.specs.Sheets.{rateLine, rateLines, sheetText, sheetsTo}
-use Rattle.printing.proofs.Putting.{after}
+use Rattle.writing.specs.Putting.{after}
 
 pub rate-put
     : {out b c d : List ℕ} (at : ℕ) {i j n : ℕ} (rate seconds : ℕ) → Holds out b i (take at out ++ decimal rate)
     → Holds b c j (take i b ++ blankNumber seconds) → Holds c d n (take j c ++ codes "\n")
     → Holds out d n (take at out ++ rateLine rate seconds)
 unfolding rateLine
-rate-put {out} at rate seconds first second end =
-    let front = take at out in
-    after front (decimal rate ++ blankNumber seconds) (codes "\n") (after front (decimal rate) (blankNumber seconds) first second) end
+rate-put at rate seconds first second end =
+    after at (decimal rate ++ blankNumber seconds) (codes "\n")
+    (after at (decimal rate) (blankNumber seconds) first second) end
 
 -- the lines of no rates, and of one more
 module _ (seconds : ℕ → ℕ) where

@@ -1,5 +1,5 @@
-// Putting numbers in decimal, as `text` puts text.
-use crate::text::put;
+// Putting numbers in decimal, as `writing` puts text.
+use writing::text::put;
 ghost use mathlib.Core.Path.{_≡_};
 ghost use mathlib.Core.List.{_++_};
 ghost use Prim.Native.Nat.{_≤_};

@@ -4,4 +4,3 @@ mod decimals;
 pub mod lines;
 pub mod sheets;
 pub mod table_files;
-pub mod text;

@@ -2,11 +2,11 @@
 use crate::decimals::put_next;
 use crate::decimals::put_number;
 use crate::decimals::put_signed;
-use crate::text::put;
 use model::AuditAnswer;
 use model::GIVE_UP;
 use model::MAX_STATES;
 use model::SolveAnswer;
+use writing::text::put;
 ghost use mathlib.Core.List.{_++_};
 ghost use Prim.Native.Nat.{_≤_, _<_};
 ghost use lib.Dec.{eqb};

@@ -1,12 +1,12 @@
 // The melt sheets: for each stick length the seconds of each melt rate.
 use crate::decimals::put_next;
 use crate::decimals::put_number;
-use crate::text::put;
 use model::MIN_RATE;
 use model::STICK_LENGTHS;
 use model::STICKS;
 use rates::RATES;
 use rates::length_seconds;
+use writing::text::put;
 ghost use mathlib.Core.Path.{_≡_};
 ghost use mathlib.Core.List.{_++_};
 ghost use Prim.Native.Nat.{_+_, _≤_, _<_};

@@ -1,8 +1,10 @@
 // Table files: values as 32-bit and picks as 16-bit numbers, least byte first, one entry a state.
-use crate::text::put;
 use model::MAX_STATES;
 use reading::numbers::u16_at;
 use reading::numbers::u32_at;
+use writing::numbers::put16;
+use writing::numbers::put32;
+use writing::text::put;
 ghost use mathlib.Core.Path.{_≡_};
 ghost use mathlib.Core.List.{_++_};
 ghost use Prim.Native.Nat.{_≤_};
@@ -27,19 +29,9 @@ fn put_value(out: &mut [u8], at: usize, x: u32) -> usize
     requires { ⌜ at ≤ length (now out) ⌝ }
     ensures { λ r. ⌜ Holds (now (out .entry)) (now (out .exit)) r (take at (now (out .entry)) ++ numberBytes 4 x) ⌝ }
 {
-    let b = x / 256;
-    let c = b / 256;
-    let d = c / 256;
-    put(
-        out,
-        at,
-        &[
-            (x % 256) as u8,
-            (b % 256) as u8,
-            (c % 256) as u8,
-            (d % 256) as u8,
-        ],
-    )
+    let mut bytes = [0u8; VALUE_BYTES];
+    put32(&mut bytes, 0, x);
+    put(out, at, &bytes)
 }
 
 // Puts a pick, 2 bytes.
@@ -47,8 +39,9 @@ fn put_pick(out: &mut [u8], at: usize, x: u16) -> usize
     requires { ⌜ at ≤ length (now out) ⌝ }
     ensures { λ r. ⌜ Holds (now (out .entry)) (now (out .exit)) r (take at (now (out .entry)) ++ numberBytes 2 x) ⌝ }
 {
-    let b = x / 256;
-    put(out, at, &[(x % 256) as u8, (b % 256) as u8])
+    let mut bytes = [0u8; PICK_BYTES];
+    put16(&mut bytes, 0, x as u32);
+    put(out, at, &bytes)
 }
 
 // Puts the bytes of each entry at the front of `out`, and answers how many there are.

@@ -29,7 +29,7 @@ use Rattle.guarantee.specs.Searches.{then-first}
 use Rattle.guarantee.specs.Solutions.{Told, turned-down, ran, told, lent-long, lent-passes, refused-by}
 use Rattle.guarantee.specs.WellFormed.{well-formed}
 use Rattle.printing.specs.Texts.{Brief}
-use Rattle.printing.proofs.Putting.{same, uncut}
+use Rattle.writing.specs.Putting.{same, uncut}
 use Rattle.programs.specs.AnswerFor.{AnswerFor}
 use Rattle.programs.specs.Remainders.{RemaindersTo}
 use Rattle.programs.proofs.Remaining.{table-entry, line-remainder, lines-same}
@@ -168,7 +168,7 @@ module _ (f values picks : List ℕ) {values′ picks′ remembered′ walk′ :
       let put = same text-is text in
       record {
         text = put;
-        whole = uncut put (omega (arith, fits, size-is, room .few, put .long));
+        whole = uncut put (omega (arith, fits, size-is, room .few));
         values-are = ap (λ t. t .values) left-is;
         picks-are = ap (λ t. t .picks) left-is;
         refused-by = refused-by-file f values picks v p;
@@ -220,6 +220,6 @@ audit-read f v p {N = N} long file values picks lv lp h k =
 -- the line of an audit was put, and there is room for every line
 pub audits
     : {f v p out out′ : List ℕ} {size : ℕ} {a : Audited} → a ≡ audit f (entries32 v) (entries16 p)
-    → Holds out out′ size (auditLine a) → length (auditLine a) ≤ lineMost → lineMost ≤ length out′ → Audits f v p out out′ size
+    → Holds out out′ size (auditLine a) → length (auditLine a) ≤ lineMost → lineMost ≤ length out → Audits f v p out out′ size
 audits e h short wide =
     record { line = same (ap auditLine e) h; whole = uncut h (le-trans short wide) ∙ ap auditLine e }

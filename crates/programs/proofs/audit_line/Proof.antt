@@ -75,7 +75,7 @@ returns c =
     (read-front v (c .before .before .before .before .before .before .before .before .before .before .before .before .before .before .before .before .before .args .values .now) (c .before .before .before .before .before .before .before .before .before .before .before .before .before .before .before .before .before .args .j) (values-long (c .before .before .before .before .before .before .before .before .before .before .before .before .before)) values (c .before .before .before .before .before .before .before .before .before .before .before .before .before .front2 .ensures))
     (read-front p (c .before .before .before .before .before .before .before .before .before .before .before .before .before .before .before .before .before .args .picks .now) (c .before .before .before .before .before .before .before .before .before .before .before .before .before .before .before .before .before .args .k) (picks-long (c .before .before .before .before .before .before .before .before .before .before .before)) picks (c .before .before .before .before .before .before .before .before .before .before .before .front3 .ensures))
     (c .before .before .before .before .before .before .before .before .before .values-of .kept .1 .0) (c .before .before .before .before .before .before .picks-of .kept .1 .0) (c .before .before .before .before .before .before .before .before .before .values-of .ensures) (c .before .before .before .before .before .before .picks-of .ensures))
-    (c .audit-text .ensures .0) (c .audit-text .ensures .1) (omega (arith, out-wide c, c .audit-text .ensures .0 .long))
+    (c .audit-text .ensures .0) (c .audit-text .ensures .1) (out-wide c)
 
 pub audit-line-spec : {M : Type 1} → statement M
 audit-line-spec =

@@ -1,8 +1,7 @@
 -- `put_next` puts a blank and then the number.
 -- Made by `places make` from answers/decimals/put_next.ans: edit that file, and not this one.
 use mathlib.Core.Path.{_∙_}
-use lib.ListN.{take}
-use Rattle.printing.proofs.Putting.{after}
+use Rattle.writing.specs.Putting.{after}
 use borrow.Author.Needs.{needs}
 use Rattle.printing.proofs.decimals.put_next.Statement.{statement}
 use Rattle.printing.proofs.decimals.put_next.Tie as tie
@@ -20,8 +19,7 @@ same-length : tie.Need-same-length
 same-length c = c .before .before .put-number .kept .0 ∙ (c .before .before .before .before .before .before .put .kept .0)
 
 returns : tie.Need-returns
-returns c =
-    after (take (c .before .before .before .before .before .before .before .before .before .before .args .at) (c .before .before .before .before .before .before .before .before .before .before .args .out .now)) _ _ (c .before .before .before .before .before .before .put .ensures) (c .before .before .put-number .ensures)
+returns c = after (c .before .before .before .before .before .before .before .before .before .before .args .at) _ _ (c .before .before .before .before .before .before .put .ensures) (c .before .before .put-number .ensures)
 
 pub put-next-spec : {M : Type 1} → statement M
 put-next-spec =

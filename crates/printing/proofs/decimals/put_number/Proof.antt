@@ -4,7 +4,7 @@ use mathlib.Core.Path.{_∙_, ap}
 use mathlib.Core.List.{_++_}
 use lib.ListN.{take}
 use Rattle.printing.proofs.Digits.{decimal-digits}
-use Rattle.printing.proofs.Putting.{same}
+use Rattle.writing.specs.Putting.{same}
 use borrow.Author.Needs.{needs}
 use native.Mathlib.Omega.{arith}
 use Rattle.printing.proofs.decimals.put_number.Statement.{statement}

@@ -3,7 +3,7 @@
 use mathlib.Core.Path.{_∙_, ap}
 use mathlib.Core.List.{_++_}
 use lib.ListN.{take}
-use Rattle.printing.proofs.Putting.{after, same}
+use Rattle.writing.specs.Putting.{after, same}
 use Rattle.printing.proofs.Signed.{signed-below, signed-above}
 use borrow.Author.Needs.{needs}
 use Rattle.printing.proofs.decimals.put_signed.Statement.{statement}
@@ -28,7 +28,7 @@ returns : tie.Need-returns
 returns c =
     same
     (ap (λ t. take (c .before .before .before .before .before .before .before .before .before .before .before .before .args .at) (c .before .before .before .before .before .before .before .before .before .before .before .before .args .out .now) ++ t) (signed-below _ _ (c .before .before .before .before .before .before .before .before .before .before .before .before .fits .x) (c .before .before .before .before .before .before .before .before .before .before .distance .ensures) (c .before .before .before .before .before .before .before .before .before .if1 .taken)))
-    (after (take (c .before .before .before .before .before .before .before .before .before .before .before .before .args .at) (c .before .before .before .before .before .before .before .before .before .before .before .before .args .out .now)) _ _ (c .before .before .before .before .before .before .put .ensures) (c .before .before .put-number .ensures))
+    (after (c .before .before .before .before .before .before .before .before .before .before .before .before .args .at) _ _ (c .before .before .before .before .before .before .put .ensures) (c .before .before .put-number .ensures))
 
 put-next-requires : tie.Need-put-next-requires
 put-next-requires c κs = c .before .before .before .before .pre

@@ -7,7 +7,7 @@ use mir.ValLaws.{toZ-ofZ}
 use Rattle.model.specs.Answers.{auditedOf}
 use Rattle.model.specs.Lines.{codes, blankNumber, blankSigned, auditLine}
 use Rattle.printing.proofs.Lengths.{accepted-most, audit-refused-most}
-use Rattle.printing.proofs.Putting.{same}
+use Rattle.writing.specs.Putting.{same}
 use borrow.Author.Needs.{needs}
 use native.Mathlib.Omega.{arith}
 use Rattle.printing.proofs.lines.audit_text.Statement.{statement}

@@ -2,7 +2,7 @@
 -- Made by `places make` from answers/lines/plan_text.ans: edit that file, and not this one.
 use mathlib.Core.Path.{_∙_}
 use Rattle.printing.proofs.Lengths.{run-most}
-use Rattle.printing.proofs.Putting.{more}
+use Rattle.writing.specs.Putting.{more}
 use borrow.Author.Needs.{needs}
 use native.Mathlib.Omega.{arith}
 use Rattle.printing.proofs.lines.plan_text.Statement.{statement}

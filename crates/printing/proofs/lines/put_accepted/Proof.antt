@@ -1,7 +1,7 @@
 -- `put_accepted` puts the word and the number, and ends the line.
 -- Made by `places make` from answers/lines/put_accepted.ans: edit that file, and not this one.
 use mathlib.Core.Path.{_∙_}
-use Rattle.printing.proofs.Putting.{more}
+use Rattle.writing.specs.Putting.{more}
 use borrow.Author.Needs.{needs}
 use Rattle.printing.proofs.lines.put_accepted.Statement.{statement}
 use Rattle.printing.proofs.lines.put_accepted.Tie as tie

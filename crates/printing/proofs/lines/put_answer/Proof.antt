@@ -4,7 +4,7 @@ use mathlib.Core.Path.{sym, ap}
 use Rattle.model.specs.Answers.{answerOf}
 use Rattle.model.specs.Lines.{answerLine}
 use Rattle.printing.proofs.Lengths.{solved-most, spent-most, refused-most}
-use Rattle.printing.proofs.Putting.{same}
+use Rattle.writing.specs.Putting.{same}
 use borrow.Author.Needs.{needs}
 use native.Mathlib.Omega.{arith}
 use Rattle.printing.proofs.lines.put_answer.Statement.{statement}

@@ -1,7 +1,7 @@
 -- `put_counts` puts the word, a number and a number.
 -- Made by `places make` from answers/lines/put_counts.ans: edit that file, and not this one.
 use mathlib.Core.Path.{_∙_}
-use Rattle.printing.proofs.Putting.{more}
+use Rattle.writing.specs.Putting.{more}
 use borrow.Author.Needs.{needs}
 use Rattle.printing.proofs.lines.put_counts.Statement.{statement}
 use Rattle.printing.proofs.lines.put_counts.Tie as tie

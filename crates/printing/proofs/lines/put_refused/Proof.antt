@@ -3,7 +3,7 @@
 use mathlib.Core.Path.{_∙_, ap}
 use mathlib.Core.List.{_++_}
 use Rattle.model.specs.Lines.{codes, blankNumber, blankSigned}
-use Rattle.printing.proofs.Putting.{more, same}
+use Rattle.writing.specs.Putting.{more, same}
 use Rattle.printing.proofs.Signed.{kept}
 use borrow.Author.Needs.{needs}
 use Rattle.printing.proofs.lines.put_refused.Statement.{statement}

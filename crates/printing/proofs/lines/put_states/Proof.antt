@@ -5,7 +5,7 @@ use lib.ListN.{length}
 use Rattle.model.specs.Value.{byState}
 use Rattle.model.specs.Lines.{stateLines}
 use Rattle.printing.proofs.Listing.{no-lines, lines-next}
-use Rattle.printing.proofs.Putting.{grown-starts, grown-goes-on, grown-ends, Grown}
+use Rattle.writing.specs.Putting.{grown-starts, grown-goes-on, grown-ends, Grown}
 use borrow.Author.Needs.{needs}
 use native.Mathlib.Omega.{arith}
 use Rattle.printing.proofs.lines.put_states.Statement.{statement}

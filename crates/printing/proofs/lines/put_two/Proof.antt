@@ -1,7 +1,7 @@
 -- `put_two` puts the word and the numbers, and ends the line.
 -- Made by `places make` from answers/lines/put_two.ans: edit that file, and not this one.
 use mathlib.Core.Path.{_∙_}
-use Rattle.printing.proofs.Putting.{more}
+use Rattle.writing.specs.Putting.{more}
 use borrow.Author.Needs.{needs}
 use Rattle.printing.proofs.lines.put_two.Statement.{statement}
 use Rattle.printing.proofs.lines.put_two.Tie as tie

@@ -4,7 +4,7 @@ use mathlib.Core.Path.{_∙_, ap}
 use mathlib.Core.List.{_++_}
 use lib.ListN.{take}
 use Rattle.model.specs.Sheets.{rateLine}
-use Rattle.printing.proofs.Putting.{same}
+use Rattle.writing.specs.Putting.{same}
 use Rattle.printing.proofs.Sheeting.{rate-put}
 use borrow.Author.Needs.{needs}
 use Rattle.printing.proofs.sheets.put_rate.Statement.{statement}

@@ -4,7 +4,7 @@ use Prim.Native.Nat.{_-_}
 use Rattle.model.specs.Limits.{rateCount}
 use Rattle.model.specs.Sections.{lengthSeconds}
 use Rattle.model.specs.Sheets.{rateLines}
-use Rattle.printing.proofs.Putting.{grown-starts, grown-goes-on, grown-ends, Grown}
+use Rattle.writing.specs.Putting.{grown-starts, grown-goes-on, grown-ends, Grown}
 use Rattle.printing.proofs.Sheeting.{no-rates, rates-next}
 use borrow.Author.Needs.{needs}
 use native.Mathlib.Omega.{arith}

@@ -3,7 +3,7 @@
 use Prim.Native.Nat.{_-_}
 use lib.ListN.{length}
 use Rattle.model.specs.Sheets.{sheetsTo}
-use Rattle.printing.proofs.Putting.{grown-starts, grown-goes-on, grown-ends, Grown}
+use Rattle.writing.specs.Putting.{grown-starts, grown-goes-on, grown-ends, Grown}
 use Rattle.printing.proofs.Sheeting.{no-sheets, sheets-next}
 use borrow.Author.Needs.{needs}
 use native.Mathlib.Omega.{arith}

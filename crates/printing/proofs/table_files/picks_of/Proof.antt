@@ -3,20 +3,22 @@
 use borrow.Author.Tests.{ltb-true, ltb-false}
 use Prim.Native.Nat.{_-_, _*_}
 use Rattle.model.specs.Bytes.{u16At}
-use Rattle.model.specs.TableFiles.{entries16}
-use Rattle.printing.proofs.Entries.{Read, read-starts, read-goes-on, read-full, read-ends}
+use Rattle.model.specs.TableFiles.{listTo, entries16}
+use Rattle.writing.specs.Putting.{one, Grown, grown-starts, grown-goes-on, grown-ends, grown-full}
+use Rattle.printing.proofs.Entries.{no-entries, entries-next, entries-left}
 use borrow.Author.Needs.{needs}
+use native.Mathlib.Omega.{arith}
 use Rattle.printing.proofs.table_files.picks_of.Statement.{statement}
 use Rattle.printing.proofs.table_files.picks_of.Tie as tie
 
 abbrev Inv-loop : tie.InvT-loop
-Inv-loop bytes picks₀ count i₀ picks i = Read (λ j. u16At bytes (2 * j)) count picks₀ picks i
+Inv-loop bytes picks₀ count i₀ picks i = Grown (listTo (λ j. u16At bytes (2 * j))) count picks₀ 0 picks i i
 
 abbrev μ-loop : tie.MeasureT-loop
 μ-loop bytes picks₀ count i₀ picks i = count - i
 
 loop-holds : tie.Need-loop-holds Inv-loop μ-loop
-loop-holds c = read-starts
+loop-holds c = grown-starts (no-entries _) (omega arith)
 
 mul-u16-at : tie.Need-mul-u16-at Inv-loop μ-loop
 mul-u16-at c = search needs
@@ -40,21 +42,24 @@ loop-less : tie.Need-loop-less Inv-loop μ-loop
 loop-less c = search needs
 
 loop-again : tie.Need-loop-again Inv-loop μ-loop
-loop-again c = read-goes-on (c .before .before .before .loop .inv) (c .u16-at .ensures .0) (c .before .before .loop-test .taken) (ltb-true _ _ (c .before .if1 .taken))
+loop-again c =
+    grown-goes-on (c .before .before .before .loop .inv) _ (c .before .before .loop-test .taken) (entries-next _ _ (c .u16-at .ensures .0))
+    (one _ _ _ (ltb-true _ _ (c .before .if1 .taken)))
 
 same-length : tie.Need-same-length Inv-loop μ-loop
-same-length c = c .before .before .loop .inv .long
+same-length c = c .before .before .loop .inv .put .long
 
 returns : tie.Need-returns Inv-loop μ-loop
 unfolding entries16
-returns c = read-full (c .before .before .loop .inv) (ltb-false _ _ (c .if1 .left))
+returns c =
+    grown-full (c .before .before .loop .inv) _ (entries-left _ _ _ (c .before .before .loop .inv .there)) (ltb-false _ _ (c .if1 .left))
 
 same-length-2 : tie.Need-same-length-2 Inv-loop μ-loop
-same-length-2 c = c .before .loop .inv .long
+same-length-2 c = c .before .loop .inv .put .long
 
 returns-2 : tie.Need-returns-2 Inv-loop μ-loop
 unfolding entries16
-returns-2 c = read-ends (c .before .loop .inv) (c .loop-test .left)
+returns-2 c = grown-ends (c .before .loop .inv) (c .loop-test .left)
 
 pub picks-of-spec : {M : Type 1} → statement M
 picks-of-spec =

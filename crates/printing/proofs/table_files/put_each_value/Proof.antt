@@ -4,7 +4,7 @@ use Prim.Native.Nat.{_-_}
 use lib.ListN.{length, take}
 use Rattle.model.specs.TableFiles.{tableBytes}
 use Rattle.guarantee.specs.TableFiles.{no-bytes, bytes-next, bytes-all}
-use Rattle.printing.proofs.Putting.{same, grown-starts, grown-goes-on, grown-ends, Grown}
+use Rattle.writing.specs.Putting.{same, grown-starts, grown-goes-on, grown-ends, Grown}
 use borrow.Author.Needs.{needs}
 use native.Mathlib.Omega.{arith}
 use Rattle.printing.proofs.table_files.put_each_value.Statement.{statement}

@@ -1,30 +1,43 @@
--- `put_pick` puts the two bytes, each the rest of a division by 256.
+-- `put_pick` puts the number into 2 bytes, which it fills, and then those.
 -- Made by `places make` from answers/table_files/put_pick.ans: edit that file, and not this one.
-use Rattle.model.specs.Bytes.{numberBytes}
+use mathlib.Core.Path.{ap}
+use mathlib.Core.List.{_++_}
+use lib.ListN.{take}
+use Rattle.guarantee.specs.TableFiles.{number-length}
+use Rattle.writing.specs.Putting.{same, filled}
 use borrow.Author.Needs.{needs}
 use Rattle.printing.proofs.table_files.put_pick.Statement.{statement}
 use Rattle.printing.proofs.table_files.put_pick.Tie as tie
 
-cast-t9 : tie.Need-cast-t9
-cast-t9 c = search needs
+slice-aggregate-put16 : tie.Need-slice-aggregate-put16
+slice-aggregate-put16 c = search needs
 
-cast-t11 : tie.Need-cast-t11
-cast-t11 c = search needs
+put16-requires : tie.Need-put16-requires
+put16-requires c κs = search needs
 
 slice-aggregate-put : tie.Need-slice-aggregate-put
 slice-aggregate-put c = search needs
 
 put-requires : tie.Need-put-requires
-put-requires c κs = c .before .before .before .pre
+put-requires c κs = c .before .before .before .before .before .before .pre
 
 same-length : tie.Need-same-length
 same-length c = c .before .before .put .kept .0
 
 returns : tie.Need-returns
-unfolding numberBytes
-returns c = c .before .before .put .ensures
+returns c =
+    same
+    (ap (λ t. take (c .before .before .before .before .before .before .before .before .before .args .at) (c .before .before .before .before .before .before .before .before .before .args .out .now) ++ t)
+    (filled (c .before .before .before .before .before .before .put16 .ensures) (number-length 2 (c .before .before .before .before .before .before .before .before .before .args .x))))
+    (c .before .before .put .ensures)
 
 pub put-pick-spec : {M : Type 1} → statement M
 put-pick-spec =
     tie.close
-    (tie.spec cast-t9 cast-t11 slice-aggregate-put put-requires same-length returns)
+    (tie.spec
+    slice-aggregate-put16
+    put16-requires
+    slice-aggregate-put
+    put-requires
+    same-length
+    returns)

@@ -1,7 +1,7 @@
 -- `put_values` puts every entry, and there is room for those of as many states as a file can have.
 -- Made by `places make` from answers/table_files/put_values.ans: edit that file, and not this one.
 use Rattle.guarantee.specs.TableFiles.{bytes-length}
-use Rattle.printing.proofs.Putting.{uncut}
+use Rattle.writing.specs.Putting.{uncut}
 use borrow.Author.Needs.{needs}
 use native.Mathlib.Omega.{arith}
 use Rattle.printing.proofs.table_files.put_values.Statement.{statement}
@@ -13,7 +13,7 @@ put-each-value-requires c κs = search needs
 returns : tie.Need-returns
 returns c =
     let put = c .put-each-value .ensures in
-    (put, λ few. uncut put (omega (arith, few, bytes-length 4 (c .before .before .before .args .values .now), put .long, c .put-each-value .ok)))
+    (put, λ few. uncut put (omega (arith, few, bytes-length 4 (c .before .before .before .args .values .now), c .put-each-value .ok)))
 
 pub put-values-spec : {M : Type 1} → statement M
 put-values-spec = tie.close (tie.spec put-each-value-requires returns)

@@ -3,20 +3,22 @@
 use borrow.Author.Tests.{ltb-true, ltb-false}
 use Prim.Native.Nat.{_-_, _*_}
 use Rattle.model.specs.Bytes.{u32At}
-use Rattle.model.specs.TableFiles.{entries32}
-use Rattle.printing.proofs.Entries.{Read, read-starts, read-goes-on, read-full, read-ends}
+use Rattle.model.specs.TableFiles.{listTo, entries32}
+use Rattle.writing.specs.Putting.{one, Grown, grown-starts, grown-goes-on, grown-ends, grown-full}
+use Rattle.printing.proofs.Entries.{no-entries, entries-next, entries-left}
 use borrow.Author.Needs.{needs}
+use native.Mathlib.Omega.{arith}
 use Rattle.printing.proofs.table_files.values_of.Statement.{statement}
 use Rattle.printing.proofs.table_files.values_of.Tie as tie
 
 abbrev Inv-loop : tie.InvT-loop
-Inv-loop bytes values₀ count i₀ values i = Read (λ j. u32At bytes (4 * j)) count values₀ values i
+Inv-loop bytes values₀ count i₀ values i = Grown (listTo (λ j. u32At bytes (4 * j))) count values₀ 0 values i i
 
 abbrev μ-loop : tie.MeasureT-loop
 μ-loop bytes values₀ count i₀ values i = count - i
 
 loop-holds : tie.Need-loop-holds Inv-loop μ-loop
-loop-holds c = read-starts
+loop-holds c = grown-starts (no-entries _) (omega arith)
 
 mul-u32-at : tie.Need-mul-u32-at Inv-loop μ-loop
 mul-u32-at c = search needs
@@ -37,21 +39,24 @@ loop-less : tie.Need-loop-less Inv-loop μ-loop
 loop-less c = search needs
 
 loop-again : tie.Need-loop-again Inv-loop μ-loop
-loop-again c = read-goes-on (c .before .before .before .loop .inv) (c .u32-at .ensures .0) (c .before .before .loop-test .taken) (ltb-true _ _ (c .before .if1 .taken))
+loop-again c =
+    grown-goes-on (c .before .before .before .loop .inv) _ (c .before .before .loop-test .taken) (entries-next _ _ (c .u32-at .ensures .0))
+    (one _ _ _ (ltb-true _ _ (c .before .if1 .taken)))
 
 same-length : tie.Need-same-length Inv-loop μ-loop
-same-length c = c .before .before .loop .inv .long
+same-length c = c .before .before .loop .inv .put .long
 
 returns : tie.Need-returns Inv-loop μ-loop
 unfolding entries32
-returns c = read-full (c .before .before .loop .inv) (ltb-false _ _ (c .if1 .left))
+returns c =
+    grown-full (c .before .before .loop .inv) _ (entries-left _ _ _ (c .before .before .loop .inv .there)) (ltb-false _ _ (c .if1 .left))
 
 same-length-2 : tie.Need-same-length-2 Inv-loop μ-loop
-same-length-2 c = c .before .loop .inv .long
+same-length-2 c = c .before .loop .inv .put .long
 
 returns-2 : tie.Need-returns-2 Inv-loop μ-loop
 unfolding entries32
-returns-2 c = read-ends (c .before .loop .inv) (c .loop-test .left)
+returns-2 c = grown-ends (c .before .loop .inv) (c .loop-test .left)
 
 pub values-of-spec : {M : Type 1} → statement M
 values-of-spec =
