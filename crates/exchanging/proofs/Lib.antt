@@ -1,5 +1,4 @@
 -- Laws that the proofs of this crate cite.
-pub mod Runs
 pub mod Inserting
 pub mod Shifting
 pub mod RowLoops

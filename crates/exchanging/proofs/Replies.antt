@@ -8,7 +8,7 @@ use lib.IntN.{pos}
 use lib.ListN.{length, getD, replicate, length-replicate}
 use borrow.Author.Tests.{le-leb, lt-leb}
 use Rattle.model.specs.Answers.{writeCarries, wroteCarries}
-use Rattle.model.specs.Buffers.{copied}
+use Rattle.model.specs.Buffers.{Holds, copied}
 use Rattle.model.specs.Carried.{sized, refusal}
 use Rattle.model.specs.Encoding.{settingNumber, outcomesTo, partsTo}
 use Rattle.model.specs.Limits.{maxRows, maxOutcomes}
@@ -21,9 +21,8 @@ use Rattle.model.specs.Writing.{Writing, written, refused}
 use Rattle.model.specs.declared.WriteAnswer.{WriteAnswer}
 use Rattle.guarantee.specs.Tables.{fill-entry}
 use Rattle.reading.specs.Ready.{Ready}
+use Rattle.writing.specs.Putting.{ends, uncut}
 use Rattle.exchanging.specs.Forms.{formOf, formCount, rowCodes, Accepted, Counted, formLength, FormAsked}
-use Rattle.exchanging.specs.Puts.{Puts}
-use Rattle.exchanging.proofs.Runs.{puts-long, puts-held}
 use Rattle.exchanging.proofs.Sections.{codes-size, form-few, form-size}
 
 module _ (f out : List ℕ) where
@@ -86,12 +85,17 @@ counted-all {f} high e =
 -- the file with its layout's numbers, and what gathering left: the form's outcomes, its size, and what putting it asks for
 module _ {f index table : List ℕ} (h : Accepted f index) {states rows outcomes : ℕ}
     (states-are : states ≡ problemOf f .states) (rows-are : rows ≡ problemOf f .rows)
-    (p : Puts (replicate maxOutcomes 0) table 0 outcomes (partsTo (rowCodes f) rows)) where
+    (p : Holds (replicate maxOutcomes 0) table outcomes (partsTo (rowCodes f) rows)) where
   all-codes : partsTo (rowCodes f) rows ≡ partsTo (rowCodes f) (problemOf f .rows)
   all-codes = ap (partsTo (rowCodes f)) rows-are
 
+  codes-fit : length (partsTo (rowCodes f) rows) ≤ length (replicate {A = ℕ} maxOutcomes 0)
+  codes-fit =
+      let long = length-replicate {A = ℕ} maxOutcomes 0 in
+      omega (arith, ap length all-codes, codes-size f (problemOf f .rows), form-few h, long)
+
   all-outcomes : outcomes ≡ outcomesTo (formOf f) (problemOf f .rows)
-  all-outcomes = omega (arith, p .ends, ap length all-codes, codes-size f (problemOf f .rows))
+  all-outcomes = omega (arith, ends 0 _ p, codes-fit, ap length all-codes, codes-size f (problemOf f .rows))
 
   pub outcomes-few : outcomes ≤ maxOutcomes
   outcomes-few = omega (arith, all-outcomes, form-few h)
@@ -109,7 +113,7 @@ module _ {f index table : List ℕ} (h : Accepted f index) {states rows outcomes
         accepted = h;
         counted = counted-all (h .ready .rows-high) (filled ∙ ap (fillTo (formCount f) (replicate maxRows 0)) rows-are);
         outcomes-are = all-outcomes;
-        table-long = omega (arith, puts-long p, p .room);
-        coded = puts-held p ∙ all-codes;
+        table-long = p .within;
+        coded = uncut p codes-fit ∙ all-codes;
         room = omega (arith, e);
       }

@@ -6,15 +6,14 @@ use native.Mathlib.Numerals.{add-one}
 use native.Mathlib.Omega.{arith}
 use mathlib.Core.List.{List, _∷_, _++_, append-nil}
 use lib.Dec.{eqb}
-use lib.ListN.{length, set, take, drop, length-append}
+use lib.ListN.{length, set, take, length-append}
 use borrow.Author.Tests.{eq-eqb, ne-eqb}
-use lib.Seq.{take-all}
-use Rattle.model.specs.Buffers.{copied}
+use Rattle.model.specs.Buffers.{Holds, copied}
 use Rattle.model.specs.Bytes.{numberBytes}
 use Rattle.model.specs.Encoding.{partsTo, settingsOn, fourthOn, settingNumber, settingBytes, stateBytes, rowBytes}
 use Rattle.model.specs.Encoding.{outcomeBytes, outcomesTo, encode}
 use Rattle.model.specs.Limits.{thousandths, maxOutcomes}
-use Rattle.model.specs.Problem.{Problem, Outcome}
+use Rattle.model.specs.Problem.{Outcome}
 use Rattle.model.specs.Rounds.{fillTo}
 use Rattle.model.specs.Search.{sumTo}
 use Rattle.model.specs.Sections.{problemOf, outcomeCountOf}
@@ -27,7 +26,7 @@ use Rattle.guarantee.specs.Encodings.{encode-length, settings-long, states-long
 use Rattle.guarantee.specs.Forms.{file-outcomes, form-encodable}
 use Rattle.guarantee.specs.Parts.{outcomes-count}
 use Rattle.guarantee.specs.Tables.{fill-next}
-use Rattle.guarantee.specs.Standing.{parts-length, parts-same}
+use Rattle.guarantee.specs.Standing.{parts-length, parts-next, parts-same}
 use Rattle.guarantee.specs.Searches.{sum-room}
 use Rattle.guarantee.specs.Sums.{sum-below}
 use Rattle.guarantee.specs.TableFiles.{number-length, bytes-append, bytes-next}
@@ -38,11 +37,10 @@ use Rattle.reading.specs.declared.settings.Settings.{Settings}
 use Rattle.reading.specs.Laid.{SettingsOf}
 use Rattle.reading.specs.RowParts.{index-seconds, outcomes-read}
 use Rattle.reading.specs.Tests.{outcomesIn}
-use Rattle.exchanging.specs.Puts.{Puts}
+use Rattle.writing.specs.Putting.{Grown, grown-starts, grown-goes-on, ends, more, after, same, is-copied}
 use Rattle.exchanging.specs.Forms.{formOf, formCount, rowCodes, Accepted, Counted, rowAs, codeAs, formLength, FormAsked}
 use Rattle.exchanging.proofs.Inserting.{codes-length, codes-bytes}
 use Rattle.exchanging.proofs.RowLoops.{RowPart}
-use Rattle.exchanging.proofs.Runs.{Listed, listed-starts, listed-goes-on, puts-long, puts-then, puts-same}
 
 -- the part of row r of an accepted file
 module _ {f index : List ℕ} (h : Accepted f index) (part : List ℕ) (r : ℕ) (l : r < problemOf f .rows)
@@ -68,15 +66,7 @@ module _ {f index : List ℕ} (h : Accepted f index) (part : List ℕ) (r : ℕ)
 pub part-number : (part : List ℕ) {os : List Outcome} → outcomesIn part ≡ os → length part / 4 ≡ length os
 part-number part e = sym (outcomes-count part 0 (length part / 4)) ∙ ap length e
 
--- the lengths of a state, and of the rows as the index and the counts have them
-
-pub state-size : (p : Problem) (s : ℕ) → length (stateBytes p s) ≡ 6
-unfolding stateBytes
-state-size p s = simp (length-append, number-length)
-
-pub row-size : (index counts : List ℕ) (r : ℕ) → length (rowAs index counts r) ≡ 4
-row-size index counts r = simp number-length
-
+-- how long the rows are, as the index and the counts have them
 pub rows-size : (index counts : List ℕ) (n : ℕ) → length (partsTo (rowAs index counts) n) ≡ 4 * n
 rows-size index counts = parts-length (rowAs index counts) (λ r. 4 * r) refl (λ r. simp number-length (omega arith))
 
@@ -153,8 +143,8 @@ form-shorter f r = gathered-few (problemOf f .outcomes r) (problemOf f .states)
 
 module _ {f index : List ℕ} (h : Accepted f index) (r : ℕ) (l : r < problemOf f .rows) where
   -- there is room for all its outcomes behind the rows before it
-  pub row-room : outcomesTo (formOf f) r + length (problemOf f .outcomes r) ≤ maxOutcomes
-  row-room =
+  outcomes-fit : outcomesTo (formOf f) r + length (problemOf f .outcomes r) ≤ maxOutcomes
+  outcomes-fit =
       let p = problemOf f in
       let before = sum-below (formCount f) (λ k. length (p .outcomes k)) r (λ k b. form-shorter f k) in
       omega (arith, before, sum-room (λ k. length (p .outcomes k)) r (p .rows) l, file-outcomes f (h .passed))
@@ -167,29 +157,30 @@ module _ {f index : List ℕ} (h : Accepted f index) (r : ℕ) (l : r < problemO
 
 -- the loop over the rows: what is gathered stands one row after the other, and the counts are filled in
 pub record Gathered (f table₀ counts₀ table counts : List ℕ) (total n r : ℕ) : Type 0 where
-  pub listed : Listed (rowCodes f) n table₀ 0 table total r
+  pub grown : Grown (partsTo (rowCodes f)) n table₀ 0 table total r
   pub filled : counts ≡ fillTo (formCount f) counts₀ r
 
-pub gathered-starts
-    : (f table counts : List ℕ) (n : ℕ) → outcomesTo (formOf f) n ≤ length table → Gathered f table counts table counts 0 n 0
-unfolding fillTo
-gathered-starts f table counts n h =
-    record { listed = listed-starts (rowCodes f) n table 0 (omega (arith, codes-size f n)); filled = refl }
+pub gathered-starts : (f table counts : List ℕ) (n : ℕ) → Gathered f table counts table counts 0 n 0
+unfolding fillTo partsTo
+gathered-starts f table counts n = record { grown = grown-starts refl (omega arith); filled = refl }
 
-module _ {f table₀ counts₀ table counts : List ℕ} {total n r : ℕ}
+module _ {f index : List ℕ} (h : Accepted f index) {table₀ counts₀ table counts : List ℕ} {total n r : ℕ}
+    (long : length table₀ ≡ maxOutcomes) (b : r < problemOf f .rows)
     (g : Gathered f table₀ counts₀ table counts total n r) where
-  pub total-is : total ≡ outcomesTo (formOf f) r
-  total-is = omega (arith, g .listed .put .ends, codes-size f r)
+  pub row-room : total + length (problemOf f .outcomes r) ≤ maxOutcomes
+  row-room = omega (arith, ends 0 _ (g .grown .put), codes-size f r, outcomes-fit h r b)
 
-  module _ {table′ : List ℕ} {end : ℕ} (put : Puts table table′ total end (rowCodes f r)) where
+  module _ {table′ : List ℕ} {end : ℕ} (put : Holds table table′ end (take total table ++ rowCodes f r)) where
     pub count-is : end - total ≡ formCount f r
-    count-is = omega (arith, put .ends, codes-length (formOf f .outcomes r))
+    count-is =
+        let size = codes-length (formOf f .outcomes r) in
+        omega (arith, ends total _ put, size, row-room, form-shorter f r, g .grown .put .long, long)
 
     pub gathered-goes-on
         : r < n → Gathered f table₀ counts₀ table′ (set counts r (end - total)) end n (r + 1)
     gathered-goes-on l =
         record {
-          listed = listed-goes-on (g .listed) l put;
+          grown = grown-goes-on (g .grown) _ l (parts-next _ _) put;
           filled = rw (g .filled, count-is) (sym (fill-next (formCount f) counts₀ r));
         }
 
@@ -230,33 +221,33 @@ module _ {f index counts table : List ℕ} {outcomes : ℕ} {out : List ℕ}
   settings-room = omega (arith, form-size f, asked .room)
 
   module _ {states rows : ℕ} (states-are : states ≡ problemOf f .states) (rows-are : rows ≡ problemOf f .rows)
-      {out₁ : List ℕ} {at₁ : ℕ} (p₁ : Puts out out₁ 0 at₁ (numberBytes 2 (settingNumber (formOf f)) ++ settingBytes (formOf f))) where
-    settings-end : at₁ ≡ 2 + 4 * settingNumber (formOf f)
+      {out₁ : List ℕ} {at₁ : ℕ} (p₁ : Holds out out₁ at₁ (numberBytes 2 (settingNumber (formOf f)) ++ settingBytes (formOf f))) where
+    settings-end : at₁ ≤ 2 + 4 * settingNumber (formOf f)
     settings-end =
         let number = settingNumber (formOf f) in
         let size = length-append (numberBytes 2 number) (settingBytes (formOf f)) in
-        omega (arith, p₁ .ends, size, number-length 2 number, settings-long (formOf f))
+        omega (arith, ends 0 _ p₁, size, number-length 2 number, settings-long (formOf f))
 
     pub states-room : at₁ + 2 + 6 * states ≤ length out₁
-    states-room = omega (arith, form-size f, asked .room, puts-long p₁, settings-end, states-are)
+    states-room = omega (arith, form-size f, asked .room, p₁ .long, settings-end, states-are)
 
     module _ {out₂ : List ℕ} {at₂ : ℕ}
-        (p₂ : Puts out₁ out₂ at₁ at₂ (numberBytes 2 states ++ partsTo (stateBytes (formOf f)) states)) where
-      states-end : at₂ ≡ at₁ + 2 + 6 * states
+        (p₂ : Holds out₁ out₂ at₂ (take at₁ out₁ ++ (numberBytes 2 states ++ partsTo (stateBytes (formOf f)) states))) where
+      states-end : at₂ ≤ at₁ + 2 + 6 * states
       states-end =
           let size = length-append (numberBytes 2 states) (partsTo (stateBytes (formOf f)) states) in
-          omega (arith, p₂ .ends, size, number-length 2 states, states-long (formOf f) states)
+          omega (arith, ends at₁ _ p₂, size, number-length 2 states, states-long (formOf f) states)
 
       pub rows-room : at₂ + 2 + 4 * rows ≤ length out₂
       rows-room =
-          omega (arith, form-size f, asked .room, puts-long p₁, puts-long p₂, settings-end, states-end, states-are, rows-are)
+          omega (arith, form-size f, asked .room, p₁ .long, p₂ .long, settings-end, states-end, states-are, rows-are)
 
       module _ {out₃ : List ℕ} {at₃ : ℕ}
-          (p₃ : Puts out₂ out₃ at₂ at₃ (numberBytes 2 rows ++ partsTo (rowAs index counts) rows)) where
-        rows-end : at₃ ≡ at₂ + 2 + 4 * rows
+          (p₃ : Holds out₂ out₃ at₃ (take at₂ out₂ ++ (numberBytes 2 rows ++ partsTo (rowAs index counts) rows))) where
+        rows-end : at₃ ≤ at₂ + 2 + 4 * rows
         rows-end =
             let size = length-append (numberBytes 2 rows) (partsTo (rowAs index counts) rows) in
-            omega (arith, p₃ .ends, size, number-length 2 rows, rows-size index counts rows)
+            omega (arith, ends at₂ _ p₃, size, number-length 2 rows, rows-size index counts rows)
 
         pub outcomes-room : at₃ + 2 + 4 * outcomes ≤ length out₃
         outcomes-room =
@@ -265,9 +256,9 @@ module _ {f index counts table : List ℕ} {outcomes : ℕ} {out : List ℕ}
               form-size f,
               asked .room,
               asked .outcomes-are,
-              puts-long p₁,
-              puts-long p₂,
-              puts-long p₃,
+              p₁ .long,
+              p₂ .long,
+              p₃ .long,
               settings-end,
               states-end,
               rows-end,
@@ -276,17 +267,17 @@ module _ {f index counts table : List ℕ} {outcomes : ℕ} {out : List ℕ}
             )
 
         module _ {out₄ : List ℕ} {at₄ : ℕ}
-            (p₄ : Puts out₃ out₄ at₃ at₄ (numberBytes 2 outcomes ++ partsTo (codeAs table) outcomes)) where
+            (p₄ : Holds out₃ out₄ at₄ (take at₃ out₃ ++ (numberBytes 2 outcomes ++ partsTo (codeAs table) outcomes))) where
           last : partsTo (codeAs table) outcomes ≡ partsTo (λ r. outcomeBytes (formOf f .outcomes r)) (problemOf f .rows)
           last =
               codes-put table outcomes (asked .table-long)
               ∙ ap bytes32 (asked .coded)
               ∙ rows-bytes (asked .accepted) (problemOf f .rows) (omega arith)
 
-          whole : Puts out out₄ 0 at₄ (setForm f)
+          whole : Holds out out₄ at₄ (setForm f)
           unfolding setForm encode inSetForm
           whole =
-              puts-same (puts-then p₁ (puts-then p₂ (puts-then p₃ p₄)))
+              same
               (ap (λ l. (numberBytes 2 (settingNumber (formOf f)) ++ settingBytes (formOf f)) ++ l)
               (ap₂ _++_
               (ap (λ n. numberBytes 2 n ++ partsTo (stateBytes (formOf f)) n) states-are)
@@ -294,13 +285,10 @@ module _ {f index counts table : List ℕ} {outcomes : ℕ} {out : List ℕ}
               (ap (λ n. numberBytes 2 n ++ partsTo (rowAs index counts) n) rows-are
               ∙ ap (λ l. numberBytes 2 (problemOf f .rows) ++ l) (rows-same (asked .accepted) counts (asked .counted)))
               (ap₂ (λ n l. numberBytes 2 n ++ l) (asked .outcomes-are) last))))
+              (more _ p₁ (after at₁ _ _ p₂ (after at₂ _ _ p₃ p₄)))
 
           pub form-long : length out₄ ≡ length out
-          form-long = puts-long whole
+          form-long = whole .long
 
           pub form-put : out₄ ≡ copied (setForm f) out
-          form-put =
-              let end : at₄ ≡ length (setForm f) = omega (arith, whole .ends) in
-              whole .left
-              ∙ ap₂ _++_ (sym (take-all (length out) (setForm f) (asked .room)))
-              (ap (λ n. drop n out) end)
+          form-put = is-copied whole (asked .room)

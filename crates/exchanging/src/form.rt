@@ -1,8 +1,5 @@
 // The sections of a set form, one after the other, at the front of a buffer that has room for them.
 use crate::gathering::gather_row;
-use crate::putting::put8;
-use crate::putting::put16;
-use crate::putting::put32;
 use model::MAX_OUTCOMES;
 use model::MAX_ROWS;
 use model::MAX_SETTINGS;
@@ -15,12 +12,15 @@ use reading::settings::settings_of;
 use reading::states::estimate_of;
 use reading::states::is_goal;
 use reading::states::row_count_of;
+use writing::numbers::put8;
+use writing::numbers::put16;
+use writing::numbers::put32;
 ghost use mathlib.Core.Path.{_≡_};
 ghost use mathlib.Core.List.{_++_};
 ghost use Prim.Native.Nat.{_+_, _*_, _≤_, _<_};
 ghost use lib.Dec.{eqb};
-ghost use lib.ListN.{length};
-ghost use Rattle.model.specs.Buffers.{copied};
+ghost use lib.ListN.{length, take};
+ghost use Rattle.model.specs.Buffers.{Holds, copied};
 ghost use Rattle.model.specs.Bytes.{numberBytes};
 ghost use Rattle.model.specs.Encoding.{partsTo, settingsOn, settingNumber, settingBytes, goalByte, stateBytes};
 ghost use Rattle.model.specs.Limits.{thousandths, maxSettings, maxStates, maxRows, maxOutcomes};
@@ -28,7 +28,6 @@ ghost use Rattle.model.specs.Questions.{passes, layoutQuestions};
 ghost use Rattle.model.specs.Rounds.{fillTo};
 ghost use Rattle.model.specs.Sections.{problemOf};
 ghost use Rattle.model.specs.SetForm.{setForm};
-ghost use Rattle.exchanging.specs.Puts.{Puts};
 ghost use Rattle.exchanging.specs.Forms.{formOf, formCount, rowCodes, Accepted, rowAs, codeAs, formLength, FormAsked};
 
 // Gathers the outcomes of the rows into the table, one row after the other, and fills in how many each has. Answers how many there
@@ -43,7 +42,7 @@ pub fn gather_rows(
     requires { ⌜ Accepted (now file) (now index) × (rows ≡ problemOf (now file) .rows)
         × (length (now table) ≡ maxOutcomes) ⌝ }
     ensures { λ r.
-        ⌜ Puts (now (table .entry)) (now (table .exit)) 0 r (partsTo (rowCodes (now (file .entry))) rows)
+        ⌜ Holds (now (table .entry)) (now (table .exit)) r (partsTo (rowCodes (now (file .entry))) rows)
         × (now (counts .exit) ≡ fillTo (formCount (now (file .entry))) (now (counts .entry)) rows) ⌝ }
 {
     let mut total = 0;
@@ -80,8 +79,8 @@ pub fn form_length(settings: u32, states: usize, rows: usize, outcomes: usize) -
 fn put_settings(file: &[u8], out: &mut [u8]) -> usize
     requires { ⌜ (layoutQuestions (now file) ≡ passes) × (2 + 4 * settingNumber (formOf (now file)) ≤ length (now out)) ⌝ }
     ensures { λ r.
-        ⌜ Puts
-        (now (out .entry)) (now (out .exit)) 0 r
+        ⌜ Holds
+        (now (out .entry)) (now (out .exit)) r
         (numberBytes 2 (settingNumber (formOf (now (file .entry)))) ++ settingBytes (formOf (now (file .entry)))) ⌝ }
 {
     let set = settings_of(file);
@@ -105,7 +104,9 @@ fn goal_byte(goal: bool) -> u8
 // Puts state s.
 fn put_state(file: &[u8], s: usize, out: &mut [u8], at: usize) -> usize
     requires { ⌜ (layoutQuestions (now file) ≡ passes) × (s < problemOf (now file) .states) × (at + 6 ≤ length (now out)) ⌝ }
-    ensures { λ r. ⌜ Puts (now (out .entry)) (now (out .exit)) at r (stateBytes (formOf (now (file .entry))) s) ⌝ }
+    ensures { λ r.
+        ⌜ Holds
+        (now (out .entry)) (now (out .exit)) r (take at (now (out .entry)) ++ stateBytes (formOf (now (file .entry))) s) ⌝ }
 {
     let at1 = put32(out, at, estimate_of(file, s));
     let at2 = put8(out, at1, row_count_of(file, s) as u8);
@@ -117,9 +118,9 @@ fn put_states(file: &[u8], n: usize, out: &mut [u8], at: usize) -> usize
     requires { ⌜ (layoutQuestions (now file) ≡ passes) × (n ≡ problemOf (now file) .states) × (n ≤ maxStates)
         × (at + 2 + 6 * n ≤ length (now out)) ⌝ }
     ensures { λ r.
-        ⌜ Puts
-        (now (out .entry)) (now (out .exit)) at r
-        (numberBytes 2 n ++ partsTo (stateBytes (formOf (now (file .entry)))) n) ⌝ }
+        ⌜ Holds
+        (now (out .entry)) (now (out .exit)) r
+        (take at (now (out .entry)) ++ (numberBytes 2 n ++ partsTo (stateBytes (formOf (now (file .entry)))) n)) ⌝ }
 {
     let mut to = put16(out, at, n as u32);
     let mut s = 0;
@@ -140,7 +141,9 @@ fn put_row(
 ) -> usize
     requires { ⌜ (r < maxRows) × (at + 4 ≤ length (now out)) ⌝ }
     ensures { λ to.
-        ⌜ Puts (now (out .entry)) (now (out .exit)) at to (rowAs (now (index .entry)) (now (counts .entry)) r) ⌝ }
+        ⌜ Holds
+        (now (out .entry)) (now (out .exit)) to
+        (take at (now (out .entry)) ++ rowAs (now (index .entry)) (now (counts .entry)) r) ⌝ }
 {
     let at1 = put8(out, at, 0);
     let at2 = put8(out, at1, counts[r]);
@@ -157,9 +160,9 @@ fn put_rows(
 ) -> usize
     requires { ⌜ (n ≤ maxRows) × (at + 2 + 4 * n ≤ length (now out)) ⌝ }
     ensures { λ r.
-        ⌜ Puts
-        (now (out .entry)) (now (out .exit)) at r
-        (numberBytes 2 n ++ partsTo (rowAs (now (index .entry)) (now (counts .entry))) n) ⌝ }
+        ⌜ Holds
+        (now (out .entry)) (now (out .exit)) r
+        (take at (now (out .entry)) ++ (numberBytes 2 n ++ partsTo (rowAs (now (index .entry)) (now (counts .entry))) n)) ⌝ }
 {
     let mut to = put16(out, at, n as u32);
     let mut r = 0;
@@ -174,7 +177,9 @@ fn put_rows(
 fn put_outcomes(table: &[u32; MAX_OUTCOMES], n: usize, out: &mut [u8], at: usize) -> usize
     requires { ⌜ (n ≤ maxOutcomes) × (at + 2 + 4 * n ≤ length (now out)) ⌝ }
     ensures { λ r.
-        ⌜ Puts (now (out .entry)) (now (out .exit)) at r (numberBytes 2 n ++ partsTo (codeAs (now (table .entry))) n) ⌝ }
+        ⌜ Holds
+        (now (out .entry)) (now (out .exit)) r
+        (take at (now (out .entry)) ++ (numberBytes 2 n ++ partsTo (codeAs (now (table .entry))) n)) ⌝ }
 {
     let mut to = put16(out, at, n as u32);
     let mut i = 0;

@@ -1,7 +1,6 @@
 // Request E6: a file written in its set form, for exchange.
 mod form;
 mod gathering;
-mod putting;
 
 use crate::form::form_length;
 use crate::form::gather_rows;

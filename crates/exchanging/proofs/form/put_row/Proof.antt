@@ -1,10 +1,10 @@
 -- `put_row` puts kind 0, the number of outcomes and the seconds.
 -- Made by `places make` from answers/form/put_row.ans: edit that file, and not this one.
 use mathlib.Core.Path.{ap}
-use mathlib.Core.List.{_∷_}
-use lib.ListN.{getD}
+use mathlib.Core.List.{_∷_, _++_}
+use lib.ListN.{getD, take}
 use Rattle.model.specs.Bytes.{numberBytes}
-use Rattle.exchanging.proofs.Runs.{puts-then, puts-same, puts-long}
+use Rattle.writing.specs.Putting.{same, after, ends}
 use borrow.Author.Needs.{needs}
 use native.Mathlib.Omega.{arith}
 use Rattle.exchanging.proofs.form.put_row.Statement.{statement}
@@ -17,22 +17,31 @@ element-copy-out-put8 : tie.Need-element-copy-out-put8
 element-copy-out-put8 c = search needs
 
 put8-requires-2 : tie.Need-put8-requires-2
-put8-requires-2 c κs = omega (arith, c .before .before .before .before .before .before .before .pre .1, c .before .before .before .before .put8 .ensures .ends, puts-long (c .before .before .before .before .put8 .ensures))
+put8-requires-2 c κs = omega (arith, c .before .before .before .before .before .before .before .pre .1, ends (c .before .before .before .before .before .before .before .args .at) _ (c .before .before .before .before .put8 .ensures), c .before .before .before .before .put8 .ensures .long)
 
 seconds-of-requires : tie.Need-seconds-of-requires
 seconds-of-requires c κs = search needs
 
 put16-requires : tie.Need-put16-requires
 put16-requires c κs =
-    omega (arith, c .before .before .before .before .before .before .before .before .before .before .before .before .pre .1, c .before .before .before .before .before .before .before .before .before .put8 .ensures .ends, puts-long (c .before .before .before .before .before .before .before .before .before .put8 .ensures), c .before .before .before .before .put82 .ensures .ends, puts-long (c .before .before .before .before .put82 .ensures))
+    omega (
+      arith,
+      c .before .before .before .before .before .before .before .before .before .before .before .before .pre .1,
+      ends (c .before .before .before .before .before .before .before .before .before .before .before .before .args .at) _ (c .before .before .before .before .before .before .before .before .before .put8 .ensures),
+      c .before .before .before .before .before .before .before .before .before .put8 .ensures .long,
+      ends (c .before .before .before .before .before .before .before .before .before .put8 .result) _ (c .before .before .before .before .put82 .ensures),
+      c .before .before .before .before .put82 .ensures .long,
+    )
 
 same-length : tie.Need-same-length
 same-length c = search needs
 
 returns : tie.Need-returns
 returns c =
-    puts-same (puts-then (c .before .before .before .before .before .before .before .before .before .before .before .before .put8 .ensures) (puts-then (c .before .before .before .before .before .before .before .put82 .ensures) (c .before .before .put16 .ensures)))
-    (ap (λ s. 0 ∷ getD (c .before .before .before .before .before .before .before .before .before .before .before .before .before .before .before .args .counts .now) (c .before .before .before .before .before .before .before .before .before .before .before .before .before .before .before .args .r) 0 ∷ numberBytes 2 s) (c .before .before .before .seconds-of .ensures))
+    same
+    (ap (λ s. take (c .before .before .before .before .before .before .before .before .before .before .before .before .before .before .before .args .at) (c .before .before .before .before .before .before .before .before .before .before .before .before .before .before .before .args .out .now) ++ (0 ∷ getD (c .before .before .before .before .before .before .before .before .before .before .before .before .before .before .before .args .counts .now) (c .before .before .before .before .before .before .before .before .before .before .before .before .before .before .before .args .r) 0 ∷ numberBytes 2 s))
+    (c .before .before .before .seconds-of .ensures))
+    (after (c .before .before .before .before .before .before .before .before .before .before .before .before .before .before .before .args .at) _ _ (c .before .before .before .before .before .before .before .before .before .before .before .before .put8 .ensures) (after (c .before .before .before .before .before .before .before .before .before .before .before .before .put8 .result) _ _ (c .before .before .before .before .before .before .before .put82 .ensures) (c .before .before .put16 .ensures)))
 
 pub put-row-spec : {M : Type 1} → statement M
 put-row-spec =

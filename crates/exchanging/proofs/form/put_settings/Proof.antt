@@ -5,8 +5,8 @@ use mathlib.Core.List.{_++_}
 use Rattle.model.specs.Bytes.{numberBytes}
 use Rattle.model.specs.Encoding.{settingNumber}
 use Rattle.guarantee.specs.Encodings.{setting-number-low}
+use Rattle.writing.specs.Putting.{same, more, after, number-ends}
 use Rattle.exchanging.specs.Forms.{formOf}
-use Rattle.exchanging.proofs.Runs.{puts-then, puts-same, number-ends}
 use Rattle.exchanging.proofs.Sections.{number-is, three-settings, four-settings, four-room}
 use borrow.Author.Needs.{needs}
 use native.Mathlib.Omega.{arith}
@@ -28,7 +28,7 @@ put16-requires c κs = omega (arith, c .before .before .before .before .before .
 
 put32-requires : tie.Need-put32-requires
 put32-requires c κs =
-    omega (arith, c .before .before .before .before .before .before .before .before .before .pre .1, setting-number-low (formOf (c .before .before .before .before .before .before .before .before .before .args .file .now)), number-ends 2 _ (c .before .before .before .put16 .ensures))
+    omega (arith, c .before .before .before .before .before .before .before .before .before .pre .1, setting-number-low (formOf (c .before .before .before .before .before .before .before .before .before .args .file .now)), number-ends 0 2 _ (c .before .before .before .put16 .ensures))
 
 put32-requires-2 : tie.Need-put32-requires-2
 put32-requires-2 c κs =
@@ -36,8 +36,8 @@ put32-requires-2 c κs =
       arith,
       c .before .before .before .before .before .before .before .before .before .before .before .before .before .pre .1,
       setting-number-low (formOf (c .before .before .before .before .before .before .before .before .before .before .before .before .before .args .file .now)),
-      number-ends 2 _ (c .before .before .before .before .before .before .before .put16 .ensures),
-      number-ends 4 _ (c .before .before .before .put32 .ensures),
+      number-ends 0 2 _ (c .before .before .before .before .before .before .before .put16 .ensures),
+      number-ends (c .before .before .before .before .before .before .before .put16 .result) 4 _ (c .before .before .before .put32 .ensures),
     )
 
 put32-requires-3 : tie.Need-put32-requires-3
@@ -46,9 +46,9 @@ put32-requires-3 c κs =
       arith,
       c .before .before .before .before .before .before .before .before .before .before .before .before .before .before .before .before .before .pre .1,
       setting-number-low (formOf (c .before .before .before .before .before .before .before .before .before .before .before .before .before .before .before .before .before .args .file .now)),
-      number-ends 2 _ (c .before .before .before .before .before .before .before .before .before .before .before .put16 .ensures),
-      number-ends 4 _ (c .before .before .before .before .before .before .before .put32 .ensures),
-      number-ends 4 _ (c .before .before .before .put322 .ensures),
+      number-ends 0 2 _ (c .before .before .before .before .before .before .before .before .before .before .before .put16 .ensures),
+      number-ends (c .before .before .before .before .before .before .before .before .before .before .before .put16 .result) 4 _ (c .before .before .before .before .before .before .before .put32 .ensures),
+      number-ends (c .before .before .before .before .before .before .before .put32 .result) 4 _ (c .before .before .before .put322 .ensures),
     )
 
 same-length : tie.Need-same-length
@@ -56,9 +56,12 @@ same-length c = search needs
 
 returns : tie.Need-returns
 returns c =
-    puts-same
-    (puts-then (c .before .before .before .before .before .before .before .before .before .before .before .before .before .before .before .before .put16 .ensures) (puts-then (c .before .before .before .before .before .before .before .before .before .before .before .before .put32 .ensures) (puts-then (c .before .before .before .before .before .before .before .before .put322 .ensures) (c .before .before .before .before .put323 .ensures))))
-    (ap₂ _++_ (ap (numberBytes 2) (settings-are (c .before .before .before .before .before .before .before .before .before .before .before .before .before .before .before .before .before))) (three-settings (c .before .before .before .before .before .before .before .before .before .before .before .before .before .before .before .before .before .before .before .settings-of .ensures) (c .if1 .taken)))
+    same
+    (ap₂ _++_ (ap (numberBytes 2) (settings-are (c .before .before .before .before .before .before .before .before .before .before .before .before .before .before .before .before .before)))
+    (three-settings (c .before .before .before .before .before .before .before .before .before .before .before .before .before .before .before .before .before .before .before .settings-of .ensures) (c .if1 .taken)))
+    (more _ (c .before .before .before .before .before .before .before .before .before .before .before .before .before .before .before .before .put16 .ensures)
+    (after (c .before .before .before .before .before .before .before .before .before .before .before .before .before .before .before .before .put16 .result) _ _ (c .before .before .before .before .before .before .before .before .before .before .before .before .put32 .ensures)
+    (after (c .before .before .before .before .before .before .before .before .before .before .before .before .put32 .result) _ _ (c .before .before .before .before .before .before .before .before .put322 .ensures) (c .before .before .before .before .put323 .ensures))))
 
 put32-requires-4 : tie.Need-put32-requires-4
 put32-requires-4 c κs =
@@ -66,10 +69,10 @@ put32-requires-4 c κs =
       arith,
       c .before .before .before .before .before .before .before .before .before .before .before .before .before .before .before .before .before .before .before .before .before .before .before .pre .1,
       four-room (c .before .before .before .before .before .before .before .before .before .before .before .before .before .before .before .before .before .before .before .before .settings-of .ensures) (c .before .if1 .left),
-      number-ends 2 _ (c .before .before .before .before .before .before .before .before .before .before .before .before .before .before .before .before .before .put16 .ensures),
-      number-ends 4 _ (c .before .before .before .before .before .before .before .before .before .before .before .before .before .put32 .ensures),
-      number-ends 4 _ (c .before .before .before .before .before .before .before .before .before .put322 .ensures),
-      number-ends 4 _ (c .before .before .before .before .before .put323 .ensures),
+      number-ends 0 2 _ (c .before .before .before .before .before .before .before .before .before .before .before .before .before .before .before .before .before .put16 .ensures),
+      number-ends (c .before .before .before .before .before .before .before .before .before .before .before .before .before .before .before .before .before .put16 .result) 4 _ (c .before .before .before .before .before .before .before .before .before .before .before .before .before .put32 .ensures),
+      number-ends (c .before .before .before .before .before .before .before .before .before .before .before .before .before .put32 .result) 4 _ (c .before .before .before .before .before .before .before .before .before .put322 .ensures),
+      number-ends (c .before .before .before .before .before .before .before .before .before .put322 .result) 4 _ (c .before .before .before .before .before .put323 .ensures),
     )
 
 same-length-2 : tie.Need-same-length-2
@@ -77,10 +80,13 @@ same-length-2 c = search needs
 
 returns-2 : tie.Need-returns-2
 returns-2 c =
-    puts-same
-    (puts-then (c .before .before .before .before .before .before .before .before .before .before .before .before .before .before .before .before .before .before .before .before .put16 .ensures)
-    (puts-then (c .before .before .before .before .before .before .before .before .before .before .before .before .before .before .before .before .put32 .ensures) (puts-then (c .before .before .before .before .before .before .before .before .before .before .before .before .put322 .ensures) (puts-then (c .before .before .before .before .before .before .before .before .put323 .ensures) (c .before .before .put324 .ensures)))))
-    (ap₂ _++_ (ap (numberBytes 2) (settings-are (c .before .before .before .before .before .before .before .before .before .before .before .before .before .before .before .before .before .before .before .before .before))) (four-settings (c .before .before .before .before .before .before .before .before .before .before .before .before .before .before .before .before .before .before .before .before .before .before .before .settings-of .ensures) (c .before .before .before .before .if1 .left)))
+    same
+    (ap₂ _++_ (ap (numberBytes 2) (settings-are (c .before .before .before .before .before .before .before .before .before .before .before .before .before .before .before .before .before .before .before .before .before)))
+    (four-settings (c .before .before .before .before .before .before .before .before .before .before .before .before .before .before .before .before .before .before .before .before .before .before .before .settings-of .ensures) (c .before .before .before .before .if1 .left)))
+    (more _ (c .before .before .before .before .before .before .before .before .before .before .before .before .before .before .before .before .before .before .before .before .put16 .ensures)
+    (after (c .before .before .before .before .before .before .before .before .before .before .before .before .before .before .before .before .before .before .before .before .put16 .result) _ _ (c .before .before .before .before .before .before .before .before .before .before .before .before .before .before .before .before .put32 .ensures)
+    (after (c .before .before .before .before .before .before .before .before .before .before .before .before .before .before .before .before .put32 .result) _ _ (c .before .before .before .before .before .before .before .before .before .before .before .before .put322 .ensures)
+    (after (c .before .before .before .before .before .before .before .before .before .before .before .before .put322 .result) _ _ (c .before .before .before .before .before .before .before .before .put323 .ensures) (c .before .before .put324 .ensures)))))
 
 pub put-settings-spec : {M : Type 1} → statement M
 put-settings-spec =

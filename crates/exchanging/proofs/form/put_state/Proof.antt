@@ -2,10 +2,11 @@
 -- Made by `places make` from answers/form/put_state.ans: edit that file, and not this one.
 use mathlib.Core.Path.{_∙_, ap, ap₂}
 use mathlib.Core.List.{[], _∷_, _++_}
+use lib.ListN.{take}
 use Rattle.model.specs.Bytes.{numberBytes}
 use Rattle.model.specs.Encoding.{goalByte, stateBytes}
 use Rattle.model.specs.SetForm.{inSetForm}
-use Rattle.exchanging.proofs.Runs.{puts-then, puts-same, puts-long, number-ends}
+use Rattle.writing.specs.Putting.{same, after, ends, number-ends}
 use borrow.Author.Needs.{needs}
 use native.Mathlib.Omega.{arith}
 use Rattle.exchanging.proofs.form.put_state.Statement.{statement}
@@ -24,7 +25,7 @@ cast-put8 : tie.Need-cast-put8
 cast-put8 c = search needs
 
 put8-requires : tie.Need-put8-requires
-put8-requires c κs = omega (arith, c .before .before .before .before .before .before .before .before .before .pre .2, number-ends 4 _ (c .before .before .before .before .put32 .ensures))
+put8-requires c κs = omega (arith, c .before .before .before .before .before .before .before .before .before .pre .2, number-ends (c .before .before .before .before .before .before .before .before .before .args .at) 4 _ (c .before .before .before .before .put32 .ensures))
 
 is-goal-requires : tie.Need-is-goal-requires
 is-goal-requires c κs = search needs
@@ -34,7 +35,13 @@ goal-byte-requires c κs = search needs
 
 put8-requires-2 : tie.Need-put8-requires-2
 put8-requires-2 c κs =
-    omega (arith, c .before .before .before .before .before .before .before .before .before .before .before .before .before .before .before .pre .2, number-ends 4 _ (c .before .before .before .before .before .before .before .before .before .before .put32 .ensures), c .before .before .before .before .before .put8 .ensures .ends, puts-long (c .before .before .before .before .before .put8 .ensures))
+    omega (
+      arith,
+      c .before .before .before .before .before .before .before .before .before .before .before .before .before .before .before .pre .2,
+      number-ends (c .before .before .before .before .before .before .before .before .before .before .before .before .before .before .before .args .at) 4 _ (c .before .before .before .before .before .before .before .before .before .before .put32 .ensures),
+      ends (c .before .before .before .before .before .before .before .before .before .before .put32 .result) _ (c .before .before .before .before .before .put8 .ensures),
+      c .before .before .before .before .before .put8 .ensures .long,
+    )
 
 same-length : tie.Need-same-length
 same-length c = search needs
@@ -42,9 +49,11 @@ same-length c = search needs
 returns : tie.Need-returns
 unfolding stateBytes inSetForm
 returns c =
-    puts-same (puts-then (c .before .before .before .before .before .before .before .before .before .before .before .before .before .put32 .ensures) (puts-then (c .before .before .before .before .before .before .before .before .put8 .ensures) (c .before .before .put82 .ensures)))
+    same
+    (ap (λ t. take (c .before .before .before .before .before .before .before .before .before .before .before .before .before .before .before .before .before .before .args .at) (c .before .before .before .before .before .before .before .before .before .before .before .before .before .before .before .before .before .before .args .out .now) ++ t)
     (ap₂ _++_ (ap (numberBytes 4) (c .before .before .before .before .before .before .before .before .before .before .before .before .before .before .estimate-of .ensures))
-    (ap₂ (λ n b. n ∷ b ∷ []) (c .before .before .before .before .before .before .before .before .before .row-count-of .ensures .0) (c .before .before .before .goal-byte .ensures ∙ ap goalByte (c .before .before .before .before .is-goal .ensures))))
+    (ap₂ (λ n b. n ∷ b ∷ []) (c .before .before .before .before .before .before .before .before .before .row-count-of .ensures .0) (c .before .before .before .goal-byte .ensures ∙ ap goalByte (c .before .before .before .before .is-goal .ensures)))))
+    (after (c .before .before .before .before .before .before .before .before .before .before .before .before .before .before .before .before .before .before .args .at) _ _ (c .before .before .before .before .before .before .before .before .before .before .before .before .before .put32 .ensures) (after (c .before .before .before .before .before .before .before .before .before .before .before .before .before .put32 .result) _ _ (c .before .before .before .before .before .before .before .before .put8 .ensures) (c .before .before .put82 .ensures)))
 
 pub put-state-spec : {M : Type 1} → statement M
 put-state-spec =
