@@ -2,6 +2,7 @@
 pub mod shift;
 
 use model::AuditAnswer;
+use model::Counts;
 use model::FileAnswer;
 use model::SolveAnswer;
 use model::WriteAnswer;
@@ -76,6 +77,21 @@ pub extern "C" fn cuulipso_rows(file: &[u8], state: u64, out: &mut [u8]) -> u64
     rows.len() as u64
 }
 
+// Writes what a run counted.
+fn put_counts(answer: &mut [u64], counts: Counts)
+    requires { ⌜ 3 ≤ length (now answer) ⌝ }
+    ensures { λ _.
+        ⌜ now (answer .exit)
+        ≡ copied (counts .rounds ∷ counts .evaluations ∷ counts .least ∷ []) (now (answer .entry)) ⌝ }
+{
+    put3(
+        answer,
+        counts.rounds,
+        counts.evaluations,
+        counts.least as u64,
+    );
+}
+
 // 1 solved, with answer rounds, evaluations, C; 2 spent, with rounds, evaluations, 0; 0 refused, with question, place, 0; 4 where
 // `answer` has fewer than 3 entries, and then nothing is done.
 #[no_mangle]
@@ -103,19 +119,12 @@ pub extern "C" fn cuulipso_solve(
     }
     let said = solving::solve::solve(file, budget, values, picks, remembered, walk);
     match said {
-        SolveAnswer::Solved {
-            rounds,
-            evaluations,
-            least,
-        } => {
-            put3(answer, rounds, evaluations, least as u64);
+        SolveAnswer::Solved { counts } => {
+            put_counts(answer, counts);
             1
         }
-        SolveAnswer::Spent {
-            rounds,
-            evaluations,
-        } => {
-            put3(answer, rounds, evaluations, 0);
+        SolveAnswer::Spent { counts } => {
+            put_counts(answer, counts);
             2
         }
         SolveAnswer::Refused { question, place } => {

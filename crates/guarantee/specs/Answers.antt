@@ -24,8 +24,8 @@ verdict-carries Passed = refl
 verdict-carries (Refused q i) = refl
 
 pub answer-carries : (r : SolveAnswer) → answerCarries (answerOf r) ≡ solveCarries r
-answer-carries (Solved rounds evaluations least) = refl
-answer-carries (Spent rounds evaluations) = refl
+answer-carries (Solved counts) = refl
+answer-carries (Spent counts) = refl
 answer-carries (Turned-down q i) = refl
 
 pub audited-carries : (r : AuditAnswer) → auditedCarries (auditedOf r) ≡ auditCarries r
@@ -44,18 +44,18 @@ verdict-one (fails q i) passes e = let s = said-is e in cc
 verdict-one (fails q i) (fails r j) e = ap (λ (c : Carried). fails (c .question) (c .place)) e
 
 pub answer-one : (a b : Answer) → answerCarries a ≡ answerCarries b → a ≡ b
-answer-one (solved n m c) (solved n′ m′ c′) e = ap (λ (c : Carried). solved (c .rounds) (c .evaluations) (c .least)) e
-answer-one (solved n m c) (spent n′ m′) e = let s = said-is e in cc
-answer-one (solved n m c) (refused q i) e = let s = said-is e in cc
-answer-one (spent n m) (solved n′ m′ c) e = let s = said-is e in cc
-answer-one (spent n m) (spent n′ m′) e = ap (λ (c : Carried). spent (c .rounds) (c .evaluations)) e
-answer-one (spent n m) (refused q i) e = let s = said-is e in cc
-answer-one (refused q i) (solved n m c) e = let s = said-is e in cc
-answer-one (refused q i) (spent n m) e = let s = said-is e in cc
+answer-one (solved c) (solved d) e = ap (λ (c : Carried). solved (c .counts)) e
+answer-one (solved c) (spent d) e = let s = said-is e in cc
+answer-one (solved c) (refused q i) e = let s = said-is e in cc
+answer-one (spent c) (solved d) e = let s = said-is e in cc
+answer-one (spent c) (spent d) e = ap (λ (c : Carried). spent (c .counts)) e
+answer-one (spent c) (refused q i) e = let s = said-is e in cc
+answer-one (refused q i) (solved d) e = let s = said-is e in cc
+answer-one (refused q i) (spent d) e = let s = said-is e in cc
 answer-one (refused q i) (refused r j) e = ap (λ (c : Carried). refused (c .question) (c .place)) e
 
 pub audited-one : (a b : Audited) → auditedCarries a ≡ auditedCarries b → a ≡ b
-audited-one (accepted c) (accepted c′) e = ap (λ (c : Carried). accepted (c .least)) e
+audited-one (accepted c) (accepted c′) e = ap (λ (c : Carried). accepted (c .counts .least)) e
 audited-one (accepted c) (audit-refused q i z) e = let s = said-is e in cc
 audited-one (audit-refused q i z) (accepted c) e = let s = said-is e in cc
 audited-one (audit-refused q i z) (audit-refused r j z′) e = ap (λ (c : Carried). audit-refused (c .question) (c .place) (c .excess)) e
@@ -90,13 +90,12 @@ pub verdict-passed : (a : Verdict) → verdictCarries a .said ≡ Said.passed �
 verdict-passed passes e = refl
 verdict-passed (fails q i) e = cc
 
-pub answer-solved : (a : Answer) → answerCarries a .said ≡ Said.solved
-    → a ≡ solved (answerCarries a .rounds) (answerCarries a .evaluations) (answerCarries a .least)
-answer-solved (solved n m c) e = refl
-answer-solved (spent n m) e = cc
+pub answer-solved : (a : Answer) → answerCarries a .said ≡ Said.solved → a ≡ solved (answerCarries a .counts)
+answer-solved (solved c) e = refl
+answer-solved (spent c) e = cc
 answer-solved (refused q i) e = cc
 
-pub audited-accepted : (a : Audited) → auditedCarries a .said ≡ Said.accepted → a ≡ accepted (auditedCarries a .least)
+pub audited-accepted : (a : Audited) → auditedCarries a .said ≡ Said.accepted → a ≡ accepted (auditedCarries a .counts .least)
 audited-accepted (accepted c) e = refl
 audited-accepted (audit-refused q i z) e = cc
 

@@ -11,7 +11,7 @@ use borrow.Author.Tests.{eqb-true}
 use Rattle.model.specs.Bytes.{u16At, numberBytes}
 use Rattle.model.specs.Encoding.{encode, partsTo, settingsOn, fourthOn, settingNumber, settingBytes, goalByte, stateBytes, rowBytes}
 use Rattle.model.specs.Encoding.{outcomeBytes, outcomesTo}
-use Rattle.model.specs.Limits.{minSettings, maxSettings, thousandths, maxOutcomes}
+use Rattle.model.specs.Limits.{minSettings, maxSettings, thousandths, maxOutcomes, maxTotal}
 use Rattle.model.specs.Problem.{Problem, Outcome}
 use Rattle.model.specs.Search.{sumTo}
 use Rattle.model.specs.Sections.{statesAt, rowsAt, outcomesAt, settingOf, totalOf, stateAt, estimateOf, rowCountOf, goalByteOf}
@@ -25,7 +25,7 @@ use Rattle.guarantee.specs.Standing.{item-stands, section-same}
 use Rattle.guarantee.specs.Sums.{sum-same}
 use Rattle.guarantee.specs.TableFiles.{number-length}
 use Rattle.guarantee.specs.Walks.{rows-sum}
-use Rattle.guarantee.specs.Totals.{maxTotal, total-high}
+use Rattle.guarantee.specs.Totals.{total-high}
 use Rattle.guarantee.specs.WellFormed.{WellFormed}
 
 -- the data of a file: well formed, with no more outcomes than a file has

@@ -18,6 +18,7 @@ use Rattle.model.specs.Sections.{lengthSeconds, rateSeconds, kindOf, costNumber
 use Rattle.model.specs.Questions.{passes, fails, _then_, fileQuestions}
 use Rattle.model.specs.Walk.{In, walk, Reached, successors, pickCost, leastCost}
 use Rattle.model.specs.Rounds.{Machine, scanOf, backup, backups, walked, round, machineStart, runFrom, runOf, listTable, bellman}
+use Rattle.model.specs.declared.Counts.{Counts}
 use Rattle.model.specs.Solution.{fine, Tables, solved, spent, refused, solutionOf, solveQuestions, solution}
 use Rattle.model.specs.Audit.{accepted, refused as audit-refused, ownPick, audit}
 use Rattle.model.specs.Following.{wayTo, waySeconds, hasOutcome, done, refused as report-refused, Report, atStart, opening, report}
@@ -108,8 +109,7 @@ runs-the-rounds = solution-run
 
 -- "If the budget is reached first, the run is spent.": none says so before it has done every round of its budget
 pub spent-late
-    : (f : List ℕ) (budget : ℕ) (t : Tables) (rounds evaluations : ℕ) → solution f budget t .answer ≡ spent rounds evaluations
-    → rounds ≡ budget
+    : (f : List ℕ) (budget : ℕ) (t : Tables) (c : Counts) → solution f budget t .answer ≡ spent c → c .rounds ≡ budget
 spent-late = spent-budget
 
 -- "in every table entries beyond stay": those of `Beyond`, however the call ends
@@ -121,10 +121,9 @@ beyond-stays = solution-beyond
 pub ending
     : (f : List ℕ) (budget : ℕ) (t : Tables) → fileQuestions f ≡ passes → solveQuestions (problemOf f) budget t ≡ passes
     → roundsEnough (problemOf f) ≤ budget
-    → (rounds : ℕ) × (evaluations : ℕ) × (C : ℕ) × (solution f budget t .answer ≡ solved rounds evaluations C)
-    × (rounds ≤ roundsEnough (problemOf f))
+    → (c : Counts) × (solution f budget t .answer ≡ solved c) × (c .rounds ≤ roundsEnough (problemOf f))
 ending f budget t file lent room =
-    let run = solution-ends f budget t file lent room in (run .rounds, run .evaluations, run .least, run .ends, run .within)
+    let run = solution-ends f budget t file lent room in (run .counts, run .ends, run .within)
 
 -- so many rounds may always be asked for: question 13 lets them through
 pub rounds-fit : (f : List ℕ) → fileQuestions f ≡ passes → roundsEnough (problemOf f) ≤ maxBudget
@@ -133,14 +132,14 @@ rounds-fit f file = rounds-enough-fit (problemOf f) (well-formed f file)
 -- Demand 3: "Whenever a run of these rounds ends solved, at whatever budget, the audit accepts that file with the values and picks the run
 -- left, and gives the run's C."
 pub acceptance
-    : (f : List ℕ) (budget : ℕ) (t : Tables) (rounds evaluations C : ℕ) → solution f budget t .answer ≡ solved rounds evaluations C
-    → audit f (solution f budget t .tables .values) (solution f budget t .tables .picks) ≡ accepted C
+    : (f : List ℕ) (budget : ℕ) (t : Tables) (c : Counts) → solution f budget t .answer ≡ solved c
+    → audit f (solution f budget t .tables .values) (solution f budget t .tables .picks) ≡ accepted (c .least)
 acceptance = answer-accepted
 
 -- Request E1: "a stick is given up only when that is cheaper". A solved plan gives up at a reached state only where every row costs
 -- more under the values left
 pub plan-gives-up-when-cheaper
-    : (f : List ℕ) (budget : ℕ) (t : Tables) (rounds evaluations C : ℕ) → solution f budget t .answer ≡ solved rounds evaluations C
+    : (f : List ℕ) (budget : ℕ) (t : Tables) (c : Counts) → solution f budget t .answer ≡ solved c
     → (s : ℕ) → Reached (problemOf f) (byState (solution f budget t .tables .picks)) s → problemOf f .goal s ≡ false
     → byState (solution f budget t .tables .picks) s ≡ giveUp → (r : ℕ) → ownRow (problemOf f) s r ≡ true
     → giveUpCost (problemOf f) < rowValue (problemOf f) (byState (solution f budget t .tables .values)) r
@@ -170,14 +169,14 @@ lines-name-picks = lines-pick
 -- "then for each state of the last walk, by state number": after solved the last walk is that of the picks that are left. The walk list
 -- left is its list, then 65,535s up to the number of states, then the lent entries beyond
 pub solved-leaves-the-walk
-    : (f : List ℕ) (budget : ℕ) (t : Tables) (rounds evaluations C : ℕ) → solution f budget t .answer ≡ solved rounds evaluations C
+    : (f : List ℕ) (budget : ℕ) (t : Tables) (c : Counts) → solution f budget t .answer ≡ solved c
     → solution f budget t .tables .walk-list
     ≡ listTable (problemOf f .states) (walk (problemOf f) (byState (solution f budget t .tables .picks)) .list) (t .walk-list)
 solved-leaves-the-walk = solved-list
 
 -- and the states that stand in it, which are those that `plan` has a line for, are exactly those that the plan left comes to, goals aside
 pub solved-lists-the-plan
-    : (f : List ℕ) (budget : ℕ) (t : Tables) (rounds evaluations C : ℕ) → solution f budget t .answer ≡ solved rounds evaluations C
+    : (f : List ℕ) (budget : ℕ) (t : Tables) (c : Counts) → solution f budget t .answer ≡ solved c
     → (s : ℕ) → HasLine (problemOf f) (solution f budget t) s
     ↔ (Reached (problemOf f) (byState (solution f budget t .tables .picks)) s × (problemOf f .goal s ≡ false))
 solved-lists-the-plan = solved-lines

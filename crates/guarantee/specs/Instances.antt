@@ -33,6 +33,8 @@ use Rattle.model.specs.Rounds.{fillTo, listTable, machineStart, runFrom, runOf}
 use Rattle.model.specs.Encoding.{settingsOn, encode}
 use Rattle.model.specs.SetForm.{inSetForm, setForm, Same}
 use Rattle.model.specs.Sheets.{sheetText, tableText}
+use Rattle.model.specs.Carried.{counts}
+use Rattle.model.specs.declared.Counts.{Counts}
 use Rattle.model.specs.Solution.{fine, Tables, solved, spent, refused, solutionOf, solveQuestions, solution}
 use Rattle.model.specs.Audit.{accepted, refused as audit-refused, audit, problemAudit, tableQuestions, unboundedState, strayState}
 use Rattle.model.specs.Audit.{slackState, pickValue}
@@ -63,7 +65,7 @@ problemP = problemOf fileP
 pub p-passes : fileQuestions fileP ≡ passes
 p-passes = others-hold .0
 
-pub p-solved : planned fileP 3 .answer ≡ solved 3 5 100000
+pub p-solved : planned fileP 3 .answer ≡ solved (counts 3 5 100000)
 p-solved = others-hold .1 .0
 
 pub p-accepted : audit fileP valuesP picksP ≡ accepted 100000
@@ -153,22 +155,21 @@ pub p-runs
 p-runs budget l = runs-the-rounds fileP budget (lent 3) p-passes (p-lent budget l)
 
 -- "Budget 0 is spent with the first state"
-pub p-spent : solution fileP 0 (lent 3) .answer ≡ spent 0 0
+pub p-spent : solution fileP 0 (lent 3) .answer ≡ spent (counts 0 0 0)
 unfolding solutionOf runFrom machineStart
 p-spent = ap (λ a. a .answer) (p-runs 0 (omega arith))
 
 -- after as many rounds as its budget has
 pub p-spent-late : _≡_ {A = ℕ} 0 0
-p-spent-late = spent-late fileP 0 (lent 3) 0 0 p-spent
+p-spent-late = spent-late fileP 0 (lent 3) (counts 0 0 0) p-spent
 
 pub p-ends
-    : (rounds : ℕ) × (evaluations : ℕ) × (C : ℕ) × (solution fileP 30000003 (lent 3) .answer ≡ solved rounds evaluations C)
-    × (rounds ≤ 30000003)
+    : (c : Counts) × (solution fileP 30000003 (lent 3) .answer ≡ solved c) × (c .rounds ≤ 30000003)
 p-ends = rw p-rounds at (ending fileP 30000003 (lent 3) p-passes (p-lent 30000003 (omega arith)) (rw p-rounds (omega arith)))
 
 -- with the budget of `plan`, which is less, P is solved too, and what is left is accepted
 pub p-acceptance : audit fileP (planned fileP 3 .tables .values) (planned fileP 3 .tables .picks) ≡ accepted 100000
-p-acceptance = acceptance fileP planRounds (lent 3) 3 5 100000 p-solved
+p-acceptance = acceptance fileP planRounds (lent 3) (counts 3 5 100000) p-solved
 
 -- E3: what the division leaves of P's row 0 is below 1,000
 pub p-remainder : rowRemainder problemP (byState valuesP) 0 < problemP .total
@@ -182,16 +183,16 @@ p-file-remainder = file-remainder-low fileP p-passes (byState valuesP) 0
 pub p-left
     : planned fileP 3 .tables .walk-list
     ≡ listTable (problemP .states) (walk problemP (byState (planned fileP 3 .tables .picks)) .list) (replicate 3 7)
-p-left = solved-leaves-the-walk fileP planRounds (lent 3) 3 5 100000 p-solved
+p-left = solved-leaves-the-walk fileP planRounds (lent 3) (counts 3 5 100000) p-solved
 
 pub p-start-listed : HasLine problemP (planned fileP 3) 0
 unfolding problemOf statesAt u16At u32At
-p-start-listed = solved-lists-the-plan fileP planRounds (lent 3) 3 5 100000 p-solved 0 .1 (at-start, refl)
+p-start-listed = solved-lists-the-plan fileP planRounds (lent 3) (counts 3 5 100000) p-solved 0 .1 (at-start, refl)
 
 pub p-listed-reached : Reached problemP (byState (planned fileP 3 .tables .picks)) 1 × (problemP .goal 1 ≡ false)
 unfolding runStates listed problemOf statesAt u16At
 p-listed-reached =
-    solved-lists-the-plan fileP planRounds (lent 3) 3 5 100000 p-solved 1 .0
+    solved-lists-the-plan fileP planRounds (lent 3) (counts 3 5 100000) p-solved 1 .0
     (rw p-solved (omega arith), rw (p-solved, others-hold .1 .1 .1 .1 .0) refl)
 
 pub p-line : PickLine problemP (byState (planned fileP 3 .tables .values)) 0 (getD (planned fileP 3 .tables .picks) 0 0)

@@ -18,6 +18,7 @@ use Rattle.model.specs.Walk.{In, here, there, walk, Reached}
 use Rattle.model.specs.Lines.{listed, runStates}
 use Rattle.model.specs.Rounds.{Machine, Ending, solved, spent, scanOf, backup, backups, walked, round, runFrom}
 use Rattle.model.specs.Rounds.{machineStart, listTable}
+use Rattle.model.specs.declared.Counts.{Counts}
 use Rattle.model.specs.Solution.{fine, Tables, Solution, solved as answer-solved, solutionOf, solution}
 use Rattle.guarantee.specs.WellFormed.{WellFormed, well-formed}
 use Rattle.guarantee.specs.Values.{pickRemainder-give, pickRemainder-row}
@@ -173,12 +174,12 @@ module _ (f : List ℕ) (budget : ℕ) (t : Tables) where
           rw is (on formed (runWith f budget t) (run-picked p formed (p .tolerance) budget _ start))
 
   -- After solved: the list left is that of the walk of the picks left, and 65,535s.
-  module _ (n e C : ℕ) (h : solution f budget t .answer ≡ answer-solved n e C) where
+  module _ (c : Counts) (h : solution f budget t .answer ≡ answer-solved c) where
     pub solved-list
         : solution f budget t .tables .walk-list
         ≡ listTable (problemOf f .states) (walk (problemOf f) (byState (solution f budget t .tables .picks)) .list) (t .walk-list)
     solved-list =
-        let by = solved-by f budget t n e C h in
+        let by = solved-by f budget t c h in
         rw (by .left) (ap (λ l. listTable (problemOf f .states) l (t .walk-list)) (solved-ends f budget t by .listed))
 
     -- so the states with a line are those that the plan comes to, goals aside
@@ -195,7 +196,7 @@ module _ (f : List ℕ) (budget : ℕ) (t : Tables) where
         picks = byState (solution f budget t .tables .picks)
 
         formed : WellFormed p
-        formed = well-formed f (solved-by f budget t n e C h .file)
+        formed = well-formed f (solved-by f budget t c h .file)
 
         Line : Type 0
         Line = (s < p .states) × (listed s (take (p .states) (listTable (p .states) (walk p picks .list) (t .walk-list))) ≡ true)

@@ -19,6 +19,7 @@ use Rattle.model.specs.Walk.{In, Reached, at-start, visitOutcomes, visitState, 
 use Rattle.model.specs.Rounds.{Machine, fillTo, machineStart, walked, scanOf, bellman, beats, evaluateOn, considerOn, consider}
 use Rattle.model.specs.Traversal.{takenIf, othersFrom, traverse}
 use Rattle.model.specs.Rounds.{raiseOn, settle, backup}
+use Rattle.model.specs.Carried.{counts}
 use Rattle.model.specs.Solution.{Solution, solveQuestions}
 use Rattle.model.specs.Following.{moved}
 use Rattle.guarantee.specs.Graphs.{clear-entry}
@@ -89,7 +90,7 @@ pub p-gives-up-at-100
     : giveUpCost (problemOf (penaltyP 100 0)) < rowValue (problemOf (penaltyP 100 0)) (byState (cheaplyP .tables .values)) 0
 unfolding problemOf statesAt rowsAt sumTo u16At u32At
 p-gives-up-at-100 =
-    plan-gives-up-when-cheaper (penaltyP 100 0) planRounds (lent 3) 3 2 100000 (requested-hold .1 .1 .1 .1 .1 .0)
+    plan-gives-up-when-cheaper (penaltyP 100 0) planRounds (lent 3) (counts 3 2 100000) (requested-hold .1 .1 .1 .1 .1 .0)
     0 at-start refl (ap (λ l. byState l 0) (requested-hold .1 .1 .1 .1 .1 .1 .0)) 0 refl
 
 -- in its second round, whose walk lists 1 and 0, state 1 gives up, and its row 2 costs more

@@ -16,6 +16,8 @@ use Rattle.model.specs.Questions.{Verdict, passes, fails, _then_, ask}
 use Rattle.model.specs.Questions.{fileQuestions}
 use Rattle.model.specs.Walk.{Reached, leastCost}
 use Rattle.model.specs.Rounds.{Machine, Ending, machineStart, runOf}
+use Rattle.model.specs.Carried.{counts}
+use Rattle.model.specs.declared.Counts.{Counts}
 use Rattle.model.specs.Solution.{fine, Tables, Answer, solved, spent, refused, tablesOf, solutionOf}
 use Rattle.model.specs.Solution.{solveQuestions, solutionOn, solution}
 use Rattle.model.specs.Audit.{accepted, audit}
@@ -39,11 +41,9 @@ pub record Lent (p : Problem) (budget : ℕ) (t : Tables) : Type 0 where
 
 -- an answer is solved, after at most `bound` rounds
 pub record SolvedWithin (bound : ℕ) (a : Answer) : Type 0 where
-  pub rounds : ℕ
-  pub evaluations : ℕ
-  pub least : ℕ
-  pub ends : a ≡ solved rounds evaluations least
-  pub within : rounds ≤ bound
+  pub counts : Counts
+  pub ends : a ≡ solved counts
+  pub within : counts .rounds ≤ bound
 
 -- the run of a file with a budget from lent tables, with no check of question 14
 abbrev pub runWith : List ℕ → ℕ → Tables → Ending
@@ -54,13 +54,13 @@ abbrev pub questions : List ℕ → ℕ → Tables → Verdict
 questions f budget t = fileQuestions f then solveQuestions (problemOf f) budget t
 
 -- what an answer "solved" comes from
-pub record SolvedBy (f : List ℕ) (budget : ℕ) (t : Tables) (n e C : ℕ) : Type 0 where
+pub record SolvedBy (f : List ℕ) (budget : ℕ) (t : Tables) (c : Counts) : Type 0 where
   pub file : fileQuestions f ≡ passes
   pub lent : solveQuestions (problemOf f) budget t ≡ passes
   pub machine : Machine
-  pub run : runWith f budget t ≡ Ending.solved n machine
-  pub evaluations : machine .evaluations ≡ e
-  pub least : leastCost (problemOf f) (byState (machine .picks)) ≡ C
+  pub run : runWith f budget t ≡ Ending.solved (c .rounds) machine
+  pub evaluations : machine .evaluations ≡ c .evaluations
+  pub least : leastCost (problemOf f) (byState (machine .picks)) ≡ c .least
   pub left : solution f budget t .tables ≡ tablesOf (problemOf f) (t .walk-list) machine
 
 -- what a refusal comes from
@@ -134,9 +134,7 @@ module _ (f : List ℕ) (budget : ℕ) (t : Tables) (file : fileQuestions f ≡ 
       let run = solve-ends p (well-formed f file) (t .values) (t .picks) (t .remembered) (long .values-long) (long .picks-long)
       (long .remembered-long) budget room in
       record {
-        rounds = run .rounds;
-        evaluations = run .machine .evaluations;
-        least = leastCost p (byState (run .machine .picks));
+        counts = counts (run .rounds) (run .machine .evaluations) (leastCost p (byState (run .machine .picks)));
         ends = rw (solution-run, run .ends) refl;
         within = run .within;
       }
@@ -176,48 +174,50 @@ module _ (f : List ℕ) (budget : ℕ) (t : Tables) where
       go (ran file lent is) = on (runWith f budget t) refl (rw is at h)
 
   -- an answer "solved" comes from a run that ends solved
-  pub solved-by : (n e C : ℕ) → solution f budget t .answer ≡ solved n e C → SolvedBy f budget t n e C
+  pub solved-by : (c : Counts) → solution f budget t .answer ≡ solved c → SolvedBy f budget t c
   unfolding solutionOf
-  solved-by n e C h = go told
+  solved-by c h = go told
     where
       on : fileQuestions f ≡ passes → solveQuestions (problemOf f) budget t ≡ passes → (run : Ending) → runWith f budget t ≡ run
-          → solution f budget t ≡ solutionOf (problemOf f) (t .walk-list) (fine run) → SolvedBy f budget t n e C
+          → solution f budget t ≡ solutionOf (problemOf f) (t .walk-list) (fine run) → SolvedBy f budget t c
       on file lent (Ending.solved k m) run is =
-          let least = leastCost (problemOf f) (byState (m .picks)) in
-          let same : solved k (m .evaluations) least ≡ solved n e C = sym (ap (λ x. x .answer) is) ∙ h in
+          let these = counts k (m .evaluations) (leastCost (problemOf f) (byState (m .picks))) in
+          let said : solved these ≡ solved c = sym (ap (λ x. x .answer) is) ∙ h in
+          let same : these ≡ c = cc in
           record {
             file = file;
             lent = lent;
             machine = m;
-            run = run ∙ ap (λ j. Ending.solved j m) (cc);
-            evaluations = cc;
-            least = cc;
+            run = run ∙ ap (λ (d : Counts). Ending.solved (d .rounds) m) same;
+            evaluations = ap (λ (d : Counts). d .evaluations) same;
+            least = ap (λ (d : Counts). d .least) same;
             left = ap (λ x. x .tables) is;
           }
       on file lent (Ending.spent k m) run is =
-          let never : spent k (m .evaluations) ≡ solved n e C = sym (ap (λ x. x .answer) is) ∙ h in
+          let never : spent (counts k (m .evaluations) 0) ≡ solved c = sym (ap (λ x. x .answer) is) ∙ h in
           absurd (true≢false (cc))
 
-      go : Told f budget t → SolvedBy f budget t n e C
+      go : Told f budget t → SolvedBy f budget t c
       go (turned-down q i failed is) =
-          let never : refused q i ≡ solved n e C = sym (ap (λ x. x .answer) is) ∙ h in
+          let never : refused q i ≡ solved c = sym (ap (λ x. x .answer) is) ∙ h in
           absurd (true≢false (cc))
       go (ran file lent is) = on file lent (runWith f budget t) refl is
 
   -- an answer "spent" comes from a run that has done every round of its budget
-  pub spent-budget : (n e : ℕ) → solution f budget t .answer ≡ spent n e → n ≡ budget
+  pub spent-budget : (c : Counts) → solution f budget t .answer ≡ spent c → c .rounds ≡ budget
   unfolding solutionOf
-  spent-budget n e h = go told
+  spent-budget c h = go told
     where
-      on : (run : Ending) → runWith f budget t ≡ run → solutionOf (problemOf f) (t .walk-list) (fine run) .answer ≡ spent n e → n ≡ budget
+      on : (run : Ending) → runWith f budget t ≡ run → solutionOf (problemOf f) (t .walk-list) (fine run) .answer ≡ spent c → c .rounds ≡ budget
       on (Ending.solved k m) run h = absurd (true≢false (cc))
       on (Ending.spent k m) run h =
-          let same : k ≡ n = cc in
+          let these : counts k (m .evaluations) 0 ≡ c = cc in
+          let same : k ≡ c .rounds = ap (λ (d : Counts). d .rounds) these in
           omega (arith, run-spent (problemOf f) (problemOf f .tolerance) budget 0 _ k m run)
 
-      go : Told f budget t → n ≡ budget
+      go : Told f budget t → c .rounds ≡ budget
       go (turned-down q i failed is) =
-          let never : refused q i ≡ spent n e = sym (ap (λ x. x .answer) is) ∙ h in
+          let never : refused q i ≡ spent c = sym (ap (λ x. x .answer) is) ∙ h in
           absurd (true≢false (cc))
       go (ran file lent is) = on (runWith f budget t) refl (rw is at h)
 
@@ -226,25 +226,25 @@ module _ (f : List ℕ) (budget : ℕ) (t : Tables) where
   never-fourteen r h = omega (arith, early-number (early-questions f budget t) 14 r (refused-by 14 r h .failed) (omega arith))
 
   -- and its machine is final
-  pub solved-ends : {n e C : ℕ} (by : SolvedBy f budget t n e C) → Final (problemOf f) (problemOf f .tolerance) (by .machine)
-  solved-ends {n} by =
+  pub solved-ends : {c : Counts} (by : SolvedBy f budget t c) → Final (problemOf f) (problemOf f .tolerance) (by .machine)
+  solved-ends {c} by =
       let p = problemOf f in
-      solved-final p (well-formed f (by .file)) (p .tolerance) budget 0 _ n (by .machine) (lent-sound f budget t (by .file) (by .lent)) (by .run)
+      solved-final p (well-formed f (by .file)) (p .tolerance) budget 0 _ (c .rounds) (by .machine) (lent-sound f budget t (by .file) (by .lent)) (by .run)
 
   -- whatever the budget: the audit accepts what a solved run left, and gives the run's C
   pub answer-accepted
-      : (n e C : ℕ) → solution f budget t .answer ≡ solved n e C
-      → audit f (solution f budget t .tables .values) (solution f budget t .tables .picks) ≡ accepted C
-  answer-accepted n e C h =
-      let by = solved-by n e C h in
+      : (c : Counts) → solution f budget t .answer ≡ solved c
+      → audit f (solution f budget t .tables .values) (solution f budget t .tables .picks) ≡ accepted (c .least)
+  answer-accepted c h =
+      let by = solved-by c h in
       rw (by .left) (final-passes-audit f (by .file) (by .machine) (solved-ends by) ∙ ap accepted (by .least))
 
   -- E1: and where its plan gives up no row costs as little
   pub answer-gives-up
-      : (n e C : ℕ) → solution f budget t .answer ≡ solved n e C
+      : (c : Counts) → solution f budget t .answer ≡ solved c
       → (s : ℕ) → Reached (problemOf f) (byState (solution f budget t .tables .picks)) s → problemOf f .goal s ≡ false
       → byState (solution f budget t .tables .picks) s ≡ giveUp → (r : ℕ) → ownRow (problemOf f) s r ≡ true
       → giveUpCost (problemOf f) < rowValue (problemOf f) (byState (solution f budget t .tables .values)) r
-  answer-gives-up n e C h =
-      let by = solved-by n e C h in
+  answer-gives-up c h =
+      let by = solved-by c h in
       rw (by .left) (final-gives-up (problemOf f) (well-formed f (by .file)) (problemOf f .tolerance) (by .machine) (solved-ends by))

@@ -8,15 +8,12 @@ use mathlib.Core.List.{List, [], _∷_}
 use mathlib.Core.Logic.{_⊎_, inl, inr}
 use lib.Dec.{eqb}
 use borrow.Author.Tests.{eqb-true, ne-eqb}
-use Rattle.model.specs.Limits.{weightTotals}
+use Rattle.model.specs.Limits.{weightTotals, maxTotal}
 use Rattle.model.specs.Problem.{Problem}
 use Rattle.model.specs.Questions.{between}
 use Rattle.model.specs.Search.{oneOf}
 use Rattle.guarantee.specs.Searches.{and-left, and-right, or-cases}
 use Rattle.guarantee.specs.WellFormed.{WellFormed, between-low, between-high}
-
-abbrev pub maxTotal : ℕ
-maxTotal = 10000
 
 abbrev eachOf : (ℕ → Bool) → List ℕ → Bool
 eachOf test [] = true

@@ -1,6 +1,6 @@
 -- "When an answer is an enum, a definition gives this paper's number and values for each of its cases."
 use lib.IntN.{pos}
-use Rattle.model.specs.Carried.{Said, Carried, ended, following, sized, refusal}
+use Rattle.model.specs.Carried.{Said, Carried, counts, noCounts, ended, following, sized, refusal}
 use Rattle.model.specs.Questions.{Verdict, passes, fails}
 use Rattle.model.specs.Solution.{Answer, solved, spent, refused}
 use Rattle.model.specs.Audit.{Audited, accepted, refused as audit-refused}
@@ -20,18 +20,18 @@ use Rattle.model.specs.declared.WriteAnswer.the-variants.{Written, Refus
 
 -- what the code's answers carry, case by case: of questions 1 to 11,
 abbrev pub fileCarries : FileAnswer → Carried
-fileCarries Passed = ended Said.passed 0 0 0
+fileCarries Passed = ended Said.passed noCounts
 fileCarries (Refused q i) = refusal q i (pos 0)
 
--- of solving a file: "C (0 if spent)",
+-- of solving a file,
 abbrev pub solveCarries : SolveAnswer → Carried
-solveCarries (Solved rounds evaluations least) = ended Said.solved rounds evaluations least
-solveCarries (Spent rounds evaluations) = ended Said.spent rounds evaluations 0
+solveCarries (Solved counts) = ended Said.solved counts
+solveCarries (Spent counts) = ended Said.spent counts
 solveCarries (Turned-down q i) = refusal q i (pos 0)
 
 -- of the audit: "Accepted .. carries C. .. The audit's refusals carry an excess",
 abbrev pub auditCarries : AuditAnswer → Carried
-auditCarries (Accepted least) = ended Said.accepted 0 0 least
+auditCarries (Accepted least) = ended Said.accepted (counts 0 0 least)
 auditCarries (Audit-refused q i excess) = refusal q i excess
 
 -- of opening and reports, whose record stands beside the answer,
@@ -47,16 +47,16 @@ writeCarries (Write-refused q i) = refusal q i (pos 0)
 -- what the answers of the definitions carry
 
 abbrev pub verdictCarries : Verdict → Carried
-verdictCarries passes = ended Said.passed 0 0 0
+verdictCarries passes = ended Said.passed noCounts
 verdictCarries (fails q i) = refusal q i (pos 0)
 
 abbrev pub answerCarries : Answer → Carried
-answerCarries (solved rounds evaluations least) = ended Said.solved rounds evaluations least
-answerCarries (spent rounds evaluations) = ended Said.spent rounds evaluations 0
+answerCarries (solved counts) = ended Said.solved counts
+answerCarries (spent counts) = ended Said.spent counts
 answerCarries (refused q i) = refusal q i (pos 0)
 
 abbrev pub auditedCarries : Audited → Carried
-auditedCarries (accepted least) = ended Said.accepted 0 0 least
+auditedCarries (accepted least) = ended Said.accepted (counts 0 0 least)
 auditedCarries (audit-refused q i excess) = refusal q i excess
 
 abbrev pub followedCarries : Followed → Follower → Carried
@@ -74,8 +74,8 @@ verdictOf Passed = passes
 verdictOf (Refused q i) = fails q i
 
 abbrev pub answerOf : SolveAnswer → Answer
-answerOf (Solved rounds evaluations least) = solved rounds evaluations least
-answerOf (Spent rounds evaluations) = spent rounds evaluations
+answerOf (Solved counts) = solved counts
+answerOf (Spent counts) = spent counts
 answerOf (Turned-down q i) = refused q i
 
 abbrev pub auditedOf : AuditAnswer → Audited

@@ -19,6 +19,7 @@ use Rattle.model.specs.Questions.{outcomeNumberQuestion, outcomesObey, o
 use Rattle.model.specs.Questions.{estimateQuestion, itemQuestions, fileQuestions}
 use Rattle.model.specs.Walk.{walk, visitState, visitOutcomes, next, leastCost, leastTo, pickCost}
 use Rattle.model.specs.Rounds.{beats, evaluateOn, settle, raiseOn, machineStart, fillTo, listTable}
+use Rattle.model.specs.Carried.{counts}
 use Rattle.model.specs.Solution.{Tables, Solution, solved, solution, solutionOn, solutionOf, solveQuestions, checkedRunFrom}
 use Rattle.model.specs.Solution.{checkedRound, checkedBackups, checkedBackup, checkedScan}
 use Rattle.model.specs.Traversal.{takenIf, othersFrom, traverse}
@@ -230,11 +231,11 @@ cases =
 abbrev pub others : List (Type 0)
 others =
     (fileQuestions fileP ≡ passes)
-    ∷ (planned fileP 3 .answer ≡ solved 3 5 100000)
+    ∷ (planned fileP 3 .answer ≡ solved (counts 3 5 100000))
     ∷ (planned fileP 3 .tables .values ≡ valuesP)
     ∷ (planned fileP 3 .tables .picks ≡ picksP)
     ∷ (planned fileP 3 .tables .walk-list ≡ 1 ∷ 0 ∷ 65535 ∷ [])
-    ∷ (planned oneState 1 .answer ≡ solved 2 0 1000)
+    ∷ (planned oneState 1 .answer ≡ solved (counts 2 0 1000))
     ∷ (planned oneState 1 .tables .values ≡ 1000 ∷ [])
     ∷ (planned oneState 1 .tables .picks ≡ 65535 ∷ [])
     ∷ (planned oneState 1 .tables .walk-list ≡ 0 ∷ [])
@@ -255,7 +256,7 @@ requested =
     ∷ (printed tiedTwice 2 ≡ codes "solved 2 2 100000\n0 100000 0 0\n")
     ∷ (printed tiedLater 3 ≡ codes "solved 3 6 100000\n0 200000 1 0\n1 100000 2 0\n")
     ∷ (printed (penaltyP 100 0) 3 ≡ codes "solved 3 2 100000\n0 100000 give 0\n")
-    ∷ (planned (penaltyP 100 0) 3 .answer ≡ solved 3 2 100000)
+    ∷ (planned (penaltyP 100 0) 3 .answer ≡ solved (counts 3 2 100000))
     ∷ (planned (penaltyP 100 0) 3 .tables .picks ≡ 65535 ∷ 65535 ∷ 65534 ∷ [])
     ∷ (fileQuestions tied ≡ passes)
     -- E2: P from opening, whatever the record held: outcome 0 of row 0 leads to state 1 in 100 s, outcome 0 of row 2 to the goal in 300 s

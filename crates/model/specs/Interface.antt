@@ -28,9 +28,9 @@ handing n left = record { status = n .0; entries = n .1 ∷ n .2 ∷ n .3 ∷ []
 -- 3 done, with state, moves, seconds; 3 with the length, 0, 0; 0 refused, with question, place" and a third number
 abbrev pub numbersOn : {A : Type 0} → (ℕ → A) → A → Said → Carried → ℕ × A × A × A
 numbersOn of third passed c = (3, of 0, of 0, of 0)
-numbersOn of third solved c = (1, of (c .rounds), of (c .evaluations), of (c .least))
-numbersOn of third spent c = (2, of (c .rounds), of (c .evaluations), of (c .least))
-numbersOn of third accepted c = (3, of (c .least), of 0, of 0)
+numbersOn of third solved c = (1, of (c .counts .rounds), of (c .counts .evaluations), of (c .counts .least))
+numbersOn of third spent c = (2, of (c .counts .rounds), of (c .counts .evaluations), of (c .counts .least))
+numbersOn of third accepted c = (3, of (c .counts .least), of 0, of 0)
 numbersOn of third done c = (3, of (c .shift .state), of (c .shift .moves), of (c .shift .seconds))
 numbersOn of third written c = (3, of (c .size), of 0, of 0)
 numbersOn of third refused c = (0, of (c .question), of (c .place), third)

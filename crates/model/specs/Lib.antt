@@ -10,6 +10,7 @@ pub mod Lookup
 pub mod Walk
 pub mod Traversal
 pub mod Rounds
+pub mod Carried
 pub mod Solution
 pub mod Audit
 pub mod Following
@@ -17,7 +18,6 @@ pub mod Buffers
 pub mod Writing
 pub mod Encoding
 pub mod SetForm
-pub mod Carried
 pub mod Answers
 pub mod Lines
 pub mod Sheets

@@ -30,11 +30,14 @@ abbrev pub ticksPerSecond : ℕ
 ticksPerSecond = 1000
 
 -- Request E7: "the weight total W: 100, 1,000, 4,096 or 10,000. With count 3, W is 1,000."
-abbrev pub weightTotals : List ℕ
-weightTotals = 100 ∷ 1000 ∷ 4096 ∷ 10000 ∷ []
-
 abbrev pub thousandths : ℕ
 thousandths = 1000
+
+abbrev pub maxTotal : ℕ
+maxTotal = 10000
+
+abbrev pub weightTotals : List ℕ
+weightTotals = 100 ∷ thousandths ∷ 4096 ∷ maxTotal ∷ []
 
 -- "Kind 0: c seconds, 1 to 65,535."
 abbrev pub maxSeconds : ℕ

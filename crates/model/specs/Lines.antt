@@ -41,9 +41,9 @@ blankSigned (negsuc n) = codes " -" ++ decimal (suc n)
 
 -- "`solved` rounds evaluations C, or `spent` rounds evaluations"; "A refusal prints `refused` number place."
 unfoldable pub answerLine : Answer → List ℕ
-answerLine (solved rounds evaluations C) =
-    codes "solved" ++ blankNumber rounds ++ blankNumber evaluations ++ blankNumber C ++ codes "\n"
-answerLine (spent rounds evaluations) = codes "spent" ++ blankNumber rounds ++ blankNumber evaluations ++ codes "\n"
+answerLine (solved c) =
+    codes "solved" ++ blankNumber (c .rounds) ++ blankNumber (c .evaluations) ++ blankNumber (c .least) ++ codes "\n"
+answerLine (spent c) = codes "spent" ++ blankNumber (c .rounds) ++ blankNumber (c .evaluations) ++ codes "\n"
 answerLine (refused q i) = codes "refused" ++ blankNumber q ++ blankNumber i ++ codes "\n"
 
 -- "row or `give`", after a blank
@@ -74,8 +74,8 @@ stateLines values picks remainder walk (suc k) =
 
 -- how many states a run has of a file with n states: a refusal has no run
 unfoldable pub runStates : Answer → ℕ → ℕ
-runStates (solved rounds evaluations C) n = n
-runStates (spent rounds evaluations) n = n
+runStates (solved counts) n = n
+runStates (spent counts) n = n
 runStates (refused q i) n = 0
 
 -- an answer, and k states of a run with its tables, a remainder for each state, and its walk list

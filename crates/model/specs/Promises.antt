@@ -39,12 +39,12 @@ roundsEnough p = (allowance p + 1) * (openTo p (p .states) + 1)
 abbrev pub EndsSolved : List ℕ → ℕ → Tables → Carried → Type 0
 EndsSolved f budget t carried =
     fileQuestions f ≡ passes → solveQuestions (problemOf f) budget t ≡ passes → roundsEnough (problemOf f) ≤ budget
-    → (carried .said ≡ Said.solved) × (carried .rounds ≤ roundsEnough (problemOf f))
+    → (carried .said ≡ Said.solved) × (carried .counts .rounds ≤ roundsEnough (problemOf f))
 
 -- "Whenever a run of these rounds ends solved, at whatever budget, the audit accepts that file with the values and picks the run left,
 -- and gives the run's C."
 abbrev pub PassesAudit : List ℕ → Tables → Carried → Type 0
-PassesAudit f left carried = carried .said ≡ Said.solved → audit f (left .values) (left .picks) ≡ accepted (carried .least)
+PassesAudit f left carried = carried .said ≡ Said.solved → audit f (left .values) (left .picks) ≡ accepted (carried .counts .least)
 
 -- "For every whole K of at least 1, every cover, in K-ths of a tick, of every plan for that file has at the start at least
 -- K × V(start). And C × V covers the accepted plan in (C − e)-ths." The set of the first half is told by a Bool here, since a contract

@@ -11,6 +11,8 @@ use Rattle.model.specs.Sections.{problemOf}
 use Rattle.model.specs.Value.{rowValue, byState}
 use Rattle.model.specs.Questions.{Verdict, passes, fails, _then_, ask, fileQuestions}
 use Rattle.model.specs.Walk.{walk, leastCost}
+use Rattle.model.specs.Carried.{counts}
+use Rattle.model.specs.declared.Counts.{Counts}
 use Rattle.model.specs.Traversal.{traverse}
 use Rattle.model.specs.Rounds.{Found, Machine, Ending, evaluate, skipped, scanStart, settle, walked, machineStart, listTable}
 
@@ -71,8 +73,8 @@ tables values picks remembered list = record { values = values; picks = picks; r
 
 -- "The result carries solved or spent, rounds done, evaluations and C (0 if spent). A refusal carries 0 for all three counts."
 pub data Answer : Type 0 where
-  solved : (rounds evaluations least : ℕ) → Answer
-  spent : (rounds evaluations : ℕ) → Answer
+  solved : Counts → Answer
+  spent : Counts → Answer
   refused : (question place : ℕ) → Answer
 
 pub record Solution : Type 0 where
@@ -92,8 +94,8 @@ tablesOf p lent m =
 
 unfoldable pub solutionOf : Problem → List ℕ → Checked Ending → Solution
 solutionOf p lent (fine (Ending.solved n m)) =
-    record { answer = solved n (m .evaluations) (leastCost p (byState (m .picks))); tables = tablesOf p lent m }
-solutionOf p lent (fine (Ending.spent n m)) = record { answer = spent n (m .evaluations); tables = tablesOf p lent m }
+    record { answer = solved (counts n (m .evaluations) (leastCost p (byState (m .picks)))); tables = tablesOf p lent m }
+solutionOf p lent (fine (Ending.spent n m)) = record { answer = spent (counts n (m .evaluations) 0); tables = tablesOf p lent m }
 solutionOf p lent (over r m) = record { answer = refused 14 r; tables = tablesOf p lent m }
 
 -- "are values, picks, remembered, walk list long enough? 12 (table 0 to 3). Is the budget at most 2,000,000,000,000,000? 13 (0)."

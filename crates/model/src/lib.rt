@@ -74,21 +74,18 @@ pub enum FileAnswer {
     Refused { question: u8, place: u32 },
 }
 
+// What a run counts: rounds done, evaluations, and C, 0 if spent.
+pub struct Counts {
+    pub rounds: u64,
+    pub evaluations: u64,
+    pub least: u32,
+}
+
 // The answer of a solved file: questions 1 to 14, or how the run ended.
 pub enum SolveAnswer {
-    Solved {
-        rounds: u64,
-        evaluations: u64,
-        least: u32,
-    },
-    Spent {
-        rounds: u64,
-        evaluations: u64,
-    },
-    Refused {
-        question: u8,
-        place: u32,
-    },
+    Solved { counts: Counts },
+    Spent { counts: Counts },
+    Refused { question: u8, place: u32 },
 }
 
 // The answer of the audit: questions 1 to 11 and 15 to 19, with the excess of a refusal.

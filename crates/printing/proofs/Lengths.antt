@@ -12,17 +12,17 @@ use lib.IntN.{ℤ, pos, negsuc}
 use lib.ListN.{length, getD, length-append}
 use lib.Signed.{mag}
 use borrow.Author.Tests.{ltb-false}
-use Rattle.model.specs.Limits.{giveUp, maxStates, maxSeconds}
+use Rattle.model.specs.Limits.{giveUp, maxStates, maxSeconds, maxTotal}
 use Rattle.model.specs.Limits.{minRate, maxRate, rateCount, fileStick, stickLengths}
 use Rattle.model.specs.Lines.{codes, decimalOn, decimalFrom, decimal, blankNumber, blankSigned, answerLine, auditLine, pickOn, lineOn}
 use Rattle.model.specs.Lines.{listed, stateLine, stateLines, runText}
 use Rattle.model.specs.Sections.{lengthSeconds}
 use Rattle.model.specs.Sheets.{rateLine, rateLines, sheetText, sheetsTo, allSheets}
 use Rattle.model.specs.Audit.{Audited, accepted}
+use Rattle.model.specs.declared.Counts.{Counts}
 use Rattle.model.specs.Solution.{Answer, solved, spent, refused}
 use Rattle.model.specs.Buffers.{lineMost, stateMost}
 use Rattle.guarantee.specs.Rates.{seconds-high}
-use Rattle.guarantee.specs.Totals.{maxTotal}
 use Rattle.printing.specs.Texts.{Brief}
 use Rattle.printing.proofs.Listing.{no-lines, lines-next}
 use Rattle.printing.proofs.Sheeting.{no-rates, rates-next, no-sheets, sheets-next}
@@ -60,23 +60,23 @@ counts-most word a b w p q =
     two-most word (blankNumber a) (blankNumber b) 8 21 21 w (omega (arith, wide-most a p)) (omega (arith, wide-most b q))
 
 -- the lines with one answer
-pub solved-most : (r e C : ℕ) → r < bits64 → e < bits64 → C < bits64
-    → length (answerLine (solved r e C)) ≤ lineMost
+pub solved-most : (c : Counts) → c .rounds < bits64 → c .evaluations < bits64 → c .least < bits64
+    → length (answerLine (solved c)) ≤ lineMost
 unfolding answerLine
-solved-most r e C p q w =
+solved-most c p q w =
     omega (
       arith,
-      two-most (codes "solved" ++ blankNumber r ++ blankNumber e) (blankNumber C) (codes "\n") 50 21 1
-          (counts-most (codes "solved") r e (omega arith) p q) (omega (arith, wide-most C w)) (omega arith),
+      two-most (codes "solved" ++ blankNumber (c .rounds) ++ blankNumber (c .evaluations)) (blankNumber (c .least)) (codes "\n") 50 21 1
+          (counts-most (codes "solved") (c .rounds) (c .evaluations) (omega arith) p q) (omega (arith, wide-most (c .least) w)) (omega arith),
     )
 
-pub spent-most : (r e : ℕ) → r < bits64 → e < bits64 → length (answerLine (spent r e)) ≤ lineMost
+pub spent-most : (c : Counts) → c .rounds < bits64 → c .evaluations < bits64 → length (answerLine (spent c)) ≤ lineMost
 unfolding answerLine
-spent-most r e p q =
+spent-most c p q =
     omega (
       arith,
-      length-append (codes "spent" ++ blankNumber r ++ blankNumber e) (codes "\n"),
-      counts-most (codes "spent") r e (omega arith) p q,
+      length-append (codes "spent" ++ blankNumber (c .rounds) ++ blankNumber (c .evaluations)) (codes "\n"),
+      counts-most (codes "spent") (c .rounds) (c .evaluations) (omega arith) p q,
     )
 
 pub refused-most : (q i : ℕ) → q < bits64 → i < bits64 → length (answerLine (refused q i)) ≤ lineMost

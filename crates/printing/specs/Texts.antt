@@ -5,9 +5,8 @@ use mathlib.Core.List.{List}
 use lib.Dec.{eqb}
 use lib.ListN.{length, getD}
 use Rattle.model.specs.Buffers.{lineMost, stateMost}
-use Rattle.model.specs.Limits.{maxStates}
+use Rattle.model.specs.Limits.{maxStates, maxTotal}
 use Rattle.model.specs.Lines.{listed}
-use Rattle.guarantee.specs.Totals.{maxTotal}
 
 -- a text with the lines of n states is no longer than it can be
 abbrev pub Brief : List ℕ → ℕ → Type 0

@@ -56,15 +56,16 @@ fn put_answer(out: &mut [u8], answer: SolveAnswer) -> usize
     ensures brief { λ r. ⌜ length (answerLine (answerOf answer)) ≤ lineMost ⌝ }
 {
     match answer {
-        SolveAnswer::Solved {
-            rounds,
-            evaluations,
-            least,
-        } => put_three(out, b"solved", rounds, evaluations, least as u64),
-        SolveAnswer::Spent {
-            rounds,
-            evaluations,
-        } => put_two(out, b"spent", rounds, evaluations),
+        SolveAnswer::Solved { counts } => put_three(
+            out,
+            b"solved",
+            counts.rounds,
+            counts.evaluations,
+            counts.least as u64,
+        ),
+        SolveAnswer::Spent { counts } => {
+            put_two(out, b"spent", counts.rounds, counts.evaluations)
+        }
         SolveAnswer::Refused { question, place } => {
             put_two(out, b"refused", question as u64, place as u64)
         }

@@ -17,6 +17,7 @@ use Rattle.model.specs.Lines.{answerLine, runStates, runText, remaindersOf, pla
 use Rattle.model.specs.Promises.{planSolution, Plans, Audits}
 use Rattle.model.specs.Questions.{Verdict, passes, fails, fileQuestions, layoutQuestions}
 use Rattle.model.specs.Sections.{problemOf}
+use Rattle.model.specs.declared.Counts.{Counts}
 use Rattle.model.specs.Solution.{Answer, solved, spent, refused, Tables, tables, solution}
 use Rattle.model.specs.TableFiles.{entries16, entries32}
 use Rattle.model.specs.Value.{byState}
@@ -43,12 +44,12 @@ module _ {f : List ℕ} {a : Answer} (s : AnswerFor f a) where
       go (turned-down q i e is) = absurd (never q i (s .answer-is ∙ ap (λ x. x .answer) is))
       go (ran file lent is) = then-first (layoutQuestions f) _ file
 
-  pub solved-passes : {n e C : ℕ} → a ≡ solved n e C → layoutQuestions f ≡ passes
-  solved-passes {n} {e} {C} h =
-      run-passes (λ q i k. let never : solved n e C ≡ refused q i = sym h ∙ k in absurd (true≢false (cc)))
+  pub solved-passes : {c : Counts} → a ≡ solved c → layoutQuestions f ≡ passes
+  solved-passes {c} h =
+      run-passes (λ q i k. let never : solved c ≡ refused q i = sym h ∙ k in absurd (true≢false (cc)))
 
-  pub spent-passes : {n e : ℕ} → a ≡ spent n e → layoutQuestions f ≡ passes
-  spent-passes {n} {e} h = run-passes (λ q i k. let never : spent n e ≡ refused q i = sym h ∙ k in absurd (true≢false (cc)))
+  pub spent-passes : {c : Counts} → a ≡ spent c → layoutQuestions f ≡ passes
+  spent-passes {c} h = run-passes (λ q i k. let never : spent c ≡ refused q i = sym h ∙ k in absurd (true≢false (cc)))
 
 -- the states of a run lie within the tables that were lent; where there are any, all those of the file do
 pub record Room (f : List ℕ) (t : Tables) (k : ℕ) : Type 0 where
@@ -60,8 +61,8 @@ pub record Room (f : List ℕ) (t : Tables) (k : ℕ) : Type 0 where
 
 run-states-most : (a : Answer) (n : ℕ) → runStates a n ≤ n
 unfolding runStates
-run-states-most (solved r e C) n = omega arith
-run-states-most (spent r e) n = omega arith
+run-states-most (solved c) n = omega arith
+run-states-most (spent c) n = omega arith
 run-states-most (refused q i) n = omega arith
 
 run-none : (a : Answer) (q i n : ℕ) → a ≡ refused q i → runStates a n ≡ 0
@@ -97,8 +98,8 @@ run-room f budget {t} {a} {k} is e = go (told f budget t)
 -- where there are states the run was no refusal
 pub run-said : (r : SolveAnswer) (n : ℕ) → 0 < runStates (answerOf r) n → solveCarries r .said ≡ Said.refused → ⊥
 unfolding runStates
-run-said (Solved rounds evaluations least) n h e = absurd (true≢false (cc))
-run-said (Spent rounds evaluations) n h e = absurd (true≢false (cc))
+run-said (Solved counts) n h e = absurd (true≢false (cc))
+run-said (Spent counts) n h e = absurd (true≢false (cc))
 run-said (Refused q i) n h e = omega arith
 
 -- the tables of `plan`

@@ -8,7 +8,7 @@ use mathlib.Core.List.{List, _++_}
 use lib.Dec.{leb}
 use lib.ListN.{getD, length, replicate, length-replicate}
 use borrow.Author.Tests.{le-leb, lt-leb}
-use Rattle.model.specs.Limits.{maxStates, weightTotals}
+use Rattle.model.specs.Limits.{maxStates, weightTotals, maxTotal}
 use Rattle.model.specs.Lines.{stateLine, stateLines, lineOn, listed}
 use Rattle.model.specs.Problem.{Problem}
 use Rattle.model.specs.Rounds.{fillTo}
@@ -17,7 +17,7 @@ use Rattle.model.specs.Sections.{problemOf}
 use Rattle.model.specs.Value.{byState, rowRemainder, pickRemainderOn, pickRemainder}
 use Rattle.guarantee.specs.Listings.{PickLine, gives-up, takes-row}
 use Rattle.guarantee.specs.Tables.{fill-length, fill-entry}
-use Rattle.guarantee.specs.Totals.{maxTotal, known-low, known-high}
+use Rattle.guarantee.specs.Totals.{known-low, known-high}
 use Rattle.guarantee.specs.Values.{rowRemainder-low}
 use Rattle.printing.proofs.Widths.{bits16}
 use Rattle.programs.specs.Remainders.{remainderWithin, remainderAt, RemaindersTo}

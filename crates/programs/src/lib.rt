@@ -59,18 +59,11 @@ fn states_of(file: &[u8], answer: SolveAnswer) -> usize
     ensures { λ r. ⌜ r ≡ runStates (answerOf answer) (problemOf (now (file .entry)) .states) ⌝ }
 {
     match answer {
-        SolveAnswer::Solved {
-            rounds: _,
-            evaluations: _,
-            least: _,
-        } => {
+        SolveAnswer::Solved { counts: _ } => {
             let l = layout_of(file);
             l.states
         }
-        SolveAnswer::Spent {
-            rounds: _,
-            evaluations: _,
-        } => {
+        SolveAnswer::Spent { counts: _ } => {
             let l = layout_of(file);
             l.states
         }

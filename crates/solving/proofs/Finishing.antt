@@ -7,7 +7,7 @@ use mathlib.Core.Bool.{Bool, true, false, not}
 use mathlib.Core.List.{List, []}
 use lib.IntN.{pos}
 use lib.ListN.{length, take}
-use Rattle.model.specs.Carried.{Carried, refusal}
+use Rattle.model.specs.Carried.{Carried, noCounts, refusal}
 use Rattle.model.specs.Limits.{noPick}
 use Rattle.model.specs.Problem.{Problem}
 use Rattle.model.specs.Promises.{Leaves}
@@ -105,28 +105,28 @@ module _ {f index : List ℕ} {budget : ℕ} {t : Tables} {states rows : ℕ} {v
 
   -- the run's end, once the walk list is ended
   module _ {e : ℕ} {t″ : Tables} {from d : Ended} (tolerance : e ≡ problemOf f .tolerance)
-      (first : (from .rounds ≡ 0) × (from .evaluations ≡ 0) × (from .listed ≡ 0))
+      (first : (from .counts ≡ noCounts) × (from .listed ≡ 0))
       (ran : Ran (problemOf f) e budget from (tables values′ picks′ remembered′ (t .walk-list)) t″ d) where
     abbrev last : Machine
-    last = machineWith t″ (take (d .listed) (t″ .walk-list)) (d .evaluations) (not (d .solved))
+    last = machineWith t″ (take (d .listed) (t″ .walk-list)) (d .counts .evaluations) (not (d .solved))
 
-    run-is : runOf (problemOf f) budget (t .values) (t .picks) (t .remembered) ≡ endedAs (d .solved) (d .rounds) last
+    run-is : runOf (problemOf f) budget (t .values) (t .picks) (t .remembered) ≡ endedAs (d .solved) (d .counts .rounds) last
     run-is =
         ap (λ m. runFrom (problemOf f) (problemOf f .tolerance) budget true 0 m) (sym begun)
         ∙ (ap (λ x. runFrom (problemOf f) x budget true 0 (machine values′ picks′ remembered′ [] 0 true)) (sym tolerance) ∙ went)
       where
         went
-            : runFrom (problemOf f) e budget true 0 (machine values′ picks′ remembered′ [] 0 true) ≡ endedAs (d .solved) (d .rounds) last
-        went = let z : budget - 0 ≡ budget = omega arith in rw z at (rw (first .0, first .1, first .2) at (ran .ends))
+            : runFrom (problemOf f) e budget true 0 (machine values′ picks′ remembered′ [] 0 true) ≡ endedAs (d .solved) (d .counts .rounds) last
+        went = let z : budget - 0 ≡ budget = omega arith in rw z at (rw (first .0, first .1) at (ran .ends))
 
-    solution-is : solution f budget t ≡ solutionOf (problemOf f) (t .walk-list) (fine (endedAs (d .solved) (d .rounds) last))
+    solution-is : solution f budget t ≡ solutionOf (problemOf f) (t .walk-list) (fine (endedAs (d .solved) (d .counts .rounds) last))
     solution-is =
         solution-run f budget t (h .solvable .file-passes) (h .solvable .tables-pass)
         ∙ ap (λ r. solutionOf (problemOf f) (t .walk-list) (fine r)) run-is
 
     pub run-leaves
         : {carried : Carried} {list‴ : List ℕ} → list‴ ≡ listTable states (take (d .listed) (t″ .walk-list)) (t″ .walk-list)
-        → carried ≡ runCarries (d .solved) (d .rounds) (d .evaluations) (d .least)
+        → carried ≡ runCarries (d .solved) (d .counts)
         → Leaves carried (tables (t″ .values) (t″ .picks) (t″ .remembered) list‴) (solution f budget t)
     unfolding solutionOf
     run-leaves {carried} {list‴} padded carries =
@@ -138,11 +138,11 @@ module _ {f index : List ℕ} {budget : ℕ} {t : Tables} {states rows : ℕ} {v
             ∙ rw (h .states-count)
             (list-table-same (problemOf f .states) (take (d .listed) (t″ .walk-list)) (t .walk-list) (t″ .walk-list) (ran .beyond))
 
-        go : (b : Bool) → d .solved ≡ b → carried ≡ runCarries b (d .rounds) (d .evaluations) (d .least)
+        go : (b : Bool) → d .solved ≡ b → carried ≡ runCarries b (d .counts)
             → Leaves carried (tables (t″ .values) (t″ .picks) (t″ .remembered) list‴)
-            (solutionOf (problemOf f) (t .walk-list) (fine (endedAs b (d .rounds) last)))
+            (solutionOf (problemOf f) (t .walk-list) (fine (endedAs b (d .counts .rounds) last)))
         go true q c = record { answer = c ∙ rw (ran .least q) refl; left = rw same-list refl }
-        go false q c = record { answer = c; left = rw same-list refl }
+        go false q c = record { answer = c ∙ rw (ran .no-least q) refl; left = rw same-list refl }
 
 -- a no to questions 1 to 13: "no table has changed"
 refusal-leaves

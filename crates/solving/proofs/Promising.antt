@@ -16,13 +16,13 @@ module _ (f : List ℕ) (budget : ℕ) (t : Tables) {left : Tables} {carried : C
   ends-solved : EndsSolved f budget t carried
   ends-solved file lent room =
       let by = solution-ends f budget t file lent room in
-      let same : carried ≡ ended Said.solved (by .rounds) (by .evaluations) (by .least) = h .answer ∙ ap answerCarries (by .ends) in
+      let same : carried ≡ ended Said.solved (by .counts) = h .answer ∙ ap answerCarries (by .ends) in
       rw same (refl, by .within)
 
   passes-audit : PassesAudit f left carried
   passes-audit said =
       let same = answer-solved (solution f budget t .answer) (ap (λ (c : Carried). c .said) (sym (h .answer)) ∙ said) in
-      rw (h .left, h .answer) (acceptance f budget t _ _ _ same)
+      rw (h .left, h .answer) (acceptance f budget t _ same)
 
   pub promised : Leaves carried left (solution f budget t) × (EndsSolved f budget t carried × PassesAudit f left carried)
   promised = (h, (ends-solved, passes-audit))

@@ -129,9 +129,9 @@ pub record RunLeft
 pub run-starts
     : {f index : List ℕ} {t : Tables} {e budget : ℕ} {from : Ended} → Runnable f index t → Begun (problemOf f) budget from
     → RunLeft f index e budget
-    (runFrom (problemOf f) e (budget - from .rounds) true (from .rounds)
-    (machineWith t (take (from .listed) (t .walk-list)) (from .evaluations) true))
-    (t .walk-list) t (from .rounds) (from .evaluations) (from .listed)
+    (runFrom (problemOf f) e (budget - from .counts .rounds) true (from .counts .rounds)
+    (machineWith t (take (from .listed) (t .walk-list)) (from .counts .evaluations) true))
+    (t .walk-list) t (from .counts .rounds) (from .counts .evaluations) (from .listed)
 run-starts h b =
     record { runnable = h; within = b .within; left = refl; counted = b .counted; few = b .few; beyond = refl }
 
@@ -207,7 +207,7 @@ module _ {f index : List ℕ} {e budget : ℕ} {w : Ending} {list₀ : List ℕ}
         }
 
     -- and where it ends, another may go on
-    pub run-stands : (ended : Ended) → ended .rounds ≡ rounds + 1 → ended .evaluations ≡ d .count → ended .listed ≡ d .listed
+    pub run-stands : (ended : Ended) → ended .counts .rounds ≡ rounds + 1 → ended .counts .evaluations ≡ d .count → ended .listed ≡ d .listed
         → Begun (problemOf f) budget ended
     run-stands ended n c k = record { within = omega (arith, n); counted = omega (arith, n, c, next-counted); few = omega (arith, k, r .few) }
 

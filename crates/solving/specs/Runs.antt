@@ -52,20 +52,20 @@ pub record Rounded (p : Problem) (e : ℕ) (t : Tables) (count : ℕ) (t′ : Ta
 
 -- where a run stands: what a further round adds to its counts has room, and its list is no longer than the states
 pub record Begun (p : Problem) (budget : ℕ) (r : Ended) : Type 0 where
-  pub within : r .rounds ≤ budget
-  pub counted : r .evaluations ≤ maxRows * r .rounds
+  pub within : r .counts .rounds ≤ budget
+  pub counted : r .counts .evaluations ≤ maxRows * r .counts .rounds
   pub few : r .listed ≤ p .states
 
 -- a run done, from where another stood: how it ended is how the model's run ends from there; where it is solved C is that of the picks as
 -- they are left, else 0; no value was too large
 pub record Ran (p : Problem) (e budget : ℕ) (from : Ended) (t t′ : Tables) (r : Ended) : Type 0 where
   pub ends
-      : runFrom p e (budget - from .rounds) true (from .rounds)
-      (machineWith t (take (from .listed) (t .walk-list)) (from .evaluations) true)
-      ≡ endedAs (r .solved) (r .rounds) (machineWith t′ (take (r .listed) (t′ .walk-list)) (r .evaluations) (not (r .solved)))
+      : runFrom p e (budget - from .counts .rounds) true (from .counts .rounds)
+      (machineWith t (take (from .listed) (t .walk-list)) (from .counts .evaluations) true)
+      ≡ endedAs (r .solved) (r .counts .rounds) (machineWith t′ (take (r .listed) (t′ .walk-list)) (r .counts .evaluations) (not (r .solved)))
   pub stands : Begun p budget r
-  pub least : r .solved ≡ true → r .least ≡ leastCost p (byState (t′ .picks))
-  pub no-least : r .solved ≡ false → r .least ≡ 0
+  pub least : r .solved ≡ true → r .counts .least ≡ leastCost p (byState (t′ .picks))
+  pub no-least : r .solved ≡ false → r .counts .least ≡ 0
   pub beyond : drop (p .states) (t′ .walk-list) ≡ drop (p .states) (t .walk-list)
   pub fine : r .over ≡ false
   pub no-row : r .row ≡ 0

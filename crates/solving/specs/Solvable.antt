@@ -10,6 +10,7 @@ use Rattle.model.specs.Limits.{maxBudget}
 use Rattle.model.specs.Questions.{Verdict, passes, _then_, ask, fileQuestions}
 use Rattle.model.specs.Sections.{problemOf}
 use Rattle.model.specs.Promises.{Leaves}
+use Rattle.model.specs.declared.Counts.{Counts}
 use Rattle.model.specs.Solution.{Tables, solveQuestions, solution}
 use Rattle.reading.specs.Ready.{Ready}
 use Rattle.checking.specs.IndexLeft.{indexLeft}
@@ -24,9 +25,9 @@ solveTests states rows values picks remembered list budget =
     then ask 13 0 (leb budget maxBudget)
 
 -- what a run that ended as solved, or as spent, carries
-abbrev pub runCarries : Bool → ℕ → ℕ → ℕ → Carried
-runCarries true rounds evaluations least = ended Said.solved rounds evaluations least
-runCarries false rounds evaluations least = ended Said.spent rounds evaluations 0
+abbrev pub runCarries : Bool → Counts → Carried
+runCarries true counts = ended Said.solved counts
+runCarries false counts = ended Said.spent counts
 
 -- questions 1 to 13 say yes, and the index is made
 pub record Solvable (f index : List ℕ) (budget : ℕ) (t : Tables) : Type 0 where

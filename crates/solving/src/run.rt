@@ -3,6 +3,7 @@
 use backing::LOG;
 use backing::backup::Tally;
 use backing::backup::backups;
+use model::Counts;
 use reading::index::INDEX;
 use walking::least::least_cost;
 use walking::walk::walk;
@@ -10,6 +11,7 @@ ghost use mathlib.Core.Path.{_≡_};
 ghost use mathlib.Core.Bool.{true};
 ghost use mathlib.Core.List.{[]};
 ghost use Prim.Native.Nat.{_≤_, _<_};
+ghost use Rattle.model.specs.Carried.{noCounts};
 ghost use Rattle.model.specs.Limits.{maxBudget};
 ghost use Rattle.model.specs.Sections.{problemOf};
 ghost use Rattle.model.specs.Solution.{tables};
@@ -87,13 +89,11 @@ fn round(
     }
 }
 
-// How a run ended: rounds done, evaluations, the length of the last walk's list, and whether it was solved; C, or 0 where it was
-// not. Where the value of a row did not fit `over` is set, and that row is `row`, which is 0 otherwise.
+// How a run ended: what it counted, the length of the last walk's list, and whether it was solved. Where the value of a row did not fit
+// `over` is set, and that row is `row`, which is 0 otherwise.
 pub struct Ended {
-    pub rounds: u64,
-    pub evaluations: u64,
+    pub counts: Counts,
     pub listed: usize,
-    pub least: u32,
     pub solved: bool,
     pub over: bool,
     pub row: u32,
@@ -101,13 +101,15 @@ pub struct Ended {
 
 // A run that has not begun.
 pub fn unbegun() -> Ended
-    ensures { λ r. ⌜ (r .rounds ≡ 0) × (r .evaluations ≡ 0) × (r .listed ≡ 0) ⌝ }
+    ensures { λ r. ⌜ (r .counts ≡ noCounts) × (r .listed ≡ 0) ⌝ }
 {
     Ended {
-        rounds: 0,
-        evaluations: 0,
+        counts: Counts {
+            rounds: 0,
+            evaluations: 0,
+            least: 0,
+        },
         listed: 0,
-        least: 0,
         solved: false,
         over: false,
         row: 0,
@@ -137,8 +139,8 @@ pub fn run(
         (tables (now (values .exit)) (now (picks .exit)) (now (remembered .exit)) (now (list .exit))) r ⌝ }
 {
     let mut log = [0u32; LOG];
-    let mut rounds = from.rounds;
-    let mut count = from.evaluations;
+    let mut rounds = from.counts.rounds;
+    let mut count = from.counts.evaluations;
     let mut listed = from.listed;
     while rounds < budget {
         let r = round(
@@ -157,10 +159,12 @@ pub fn run(
         listed = r.listed;
         if r.over {
             return Ended {
-                rounds,
-                evaluations: count,
+                counts: Counts {
+                    rounds,
+                    evaluations: count,
+                    least: 0,
+                },
                 listed,
-                least: 0,
                 solved: false,
                 over: true,
                 row: r.row,
@@ -170,10 +174,12 @@ pub fn run(
         count = r.count;
         if !r.moved {
             return Ended {
-                rounds,
-                evaluations: count,
+                counts: Counts {
+                    rounds,
+                    evaluations: count,
+                    least: r.least,
+                },
                 listed,
-                least: r.least,
                 solved: true,
                 over: false,
                 row: 0,
@@ -181,10 +187,12 @@ pub fn run(
         }
     }
     Ended {
-        rounds,
-        evaluations: count,
+        counts: Counts {
+            rounds,
+            evaluations: count,
+            least: 0,
+        },
         listed,
-        least: 0,
         solved: false,
         over: false,
         row: 0,

@@ -27,7 +27,7 @@ ghost use Rattle.solving.specs.Solvable.{runCarries, Solvable, FileSolve
 // The answer of a run that ended.
 fn answer(end: Ended) -> SolveAnswer
     requires { ⌜ end .over ≡ false ⌝ }
-    ensures { λ r. ⌜ solveCarries r ≡ runCarries (end .solved) (end .rounds) (end .evaluations) (end .least) ⌝ }
+    ensures { λ r. ⌜ solveCarries r ≡ runCarries (end .solved) (end .counts) ⌝ }
 {
     if end.over {
         return SolveAnswer::Refused {
@@ -35,19 +35,11 @@ fn answer(end: Ended) -> SolveAnswer
             place: end.row,
         };
     }
-    let rounds = end.rounds;
-    let evaluations = end.evaluations;
+    let counts = end.counts;
     if end.solved {
-        SolveAnswer::Solved {
-            rounds,
-            evaluations,
-            least: end.least,
-        }
+        SolveAnswer::Solved { counts }
     } else {
-        SolveAnswer::Spent {
-            rounds,
-            evaluations,
-        }
+        SolveAnswer::Spent { counts }
     }
 }
 

@@ -16,29 +16,26 @@ solve-requires c κs = search needs
 enum-known-said : tie.Need-enum-known-said
 enum-known-said c = search needs
 
-cast-put3 : tie.Need-cast-put3
-cast-put3 c = search needs
-
-put3-requires : tie.Need-put3-requires
-put3-requires c κs = search needs
+put-counts-requires : tie.Need-put-counts-requires
+put-counts-requires c κs = search needs
 
 enum-known-said-2 : tie.Need-enum-known-said-2
 enum-known-said-2 c = search needs
 
-put3-requires-2 : tie.Need-put3-requires-2
-put3-requires-2 c κs = search needs
+put-counts-requires-2 : tie.Need-put-counts-requires-2
+put-counts-requires-2 c κs = search needs
 
 enum-known-said-3 : tie.Need-enum-known-said-3
 enum-known-said-3 c = search needs
 
+cast-put3 : tie.Need-cast-put3
+cast-put3 c = search needs
+
 cast-put3-2 : tie.Need-cast-put3-2
 cast-put3-2 c = search needs
 
-cast-put3-3 : tie.Need-cast-put3-3
-cast-put3-3 c = search needs
-
-put3-requires-3 : tie.Need-put3-requires-3
-put3-requires-3 c κs = search needs
+put3-requires : tie.Need-put3-requires
+put3-requires c κs = search needs
 
 same-length : tie.Need-same-length
 same-length c = search needs
@@ -58,7 +55,7 @@ same-length-5 c = search needs
 returns-2 : tie.Need-returns-2
 returns-2 c =
     answer-handed plainNumbers solveCarries (c .before .before .before .before .before .before .before .before .before .before .before .before .before .before .before .solve .ensures .0 .answer) (c .before .before .before .before .before .before .before .before .before .before .before .before .before .before .before .solve .ensures .0 .left) (c .before .before .before .before .before .said .given .1)
-    (c .before .before .before .before .before .before .before .before .before .before .before .before .before .before .before .before .before .before .before .before .if1 .left) (c .before .before .put3 .ensures)
+    (c .before .before .before .before .before .before .before .before .before .before .before .before .before .before .before .before .before .before .before .before .if1 .left) (c .before .before .put-counts .ensures)
 
 same-length-6 : tie.Need-same-length-6
 same-length-6 c = search needs
@@ -78,7 +75,7 @@ same-length-10 c = search needs
 returns-3 : tie.Need-returns-3
 returns-3 c =
     answer-handed plainNumbers solveCarries (c .before .before .before .before .before .before .before .before .before .before .before .before .before .before .before .solve .ensures .0 .answer) (c .before .before .before .before .before .before .before .before .before .before .before .before .before .before .before .solve .ensures .0 .left) (c .before .before .before .before .before .said2 .given .1)
-    (c .before .before .before .before .before .before .before .before .before .before .before .before .before .before .before .before .before .before .before .before .if1 .left) (c .before .before .put32 .ensures)
+    (c .before .before .before .before .before .before .before .before .before .before .before .before .before .before .before .before .before .before .before .before .if1 .left) (c .before .before .put-counts2 .ensures)
 
 same-length-11 : tie.Need-same-length-11
 same-length-11 c = search needs
@@ -98,7 +95,7 @@ same-length-15 c = search needs
 returns-4 : tie.Need-returns-4
 returns-4 c =
     answer-handed plainNumbers solveCarries (c .before .before .before .before .before .before .before .before .before .before .before .before .before .before .before .solve .ensures .0 .answer) (c .before .before .before .before .before .before .before .before .before .before .before .before .before .before .before .solve .ensures .0 .left) (c .before .before .before .before .before .said3 .given .1)
-    (c .before .before .before .before .before .before .before .before .before .before .before .before .before .before .before .before .before .before .before .before .if1 .left) (c .before .before .put33 .ensures)
+    (c .before .before .before .before .before .before .before .before .before .before .before .before .before .before .before .before .before .before .before .before .if1 .left) (c .before .before .put3 .ensures)
 
 pub cuulipso-solve-spec : {M : Type 1} → statement M
 cuulipso-solve-spec =
@@ -107,14 +104,13 @@ cuulipso-solve-spec =
     returns
     solve-requires
     enum-known-said
-    cast-put3
-    put3-requires
+    put-counts-requires
     enum-known-said-2
-    put3-requires-2
+    put-counts-requires-2
     enum-known-said-3
+    cast-put3
     cast-put3-2
-    cast-put3-3
-    put3-requires-3
+    put3-requires
     same-length
     same-length-2
     same-length-3

@@ -52,10 +52,10 @@ same-length c = c .before .before .put-three .kept .0
 returns : tie.Need-returns
 unfolding answerLine
 returns c =
-    let e = c .before .before .before .before .before .before .answer .given .1 in
-    let t = c .before .before .before .before .before .known-told .given in (
+    let e = c .before .before .before .before .before .before .before .answer .given .1 in
+    let t = c .before .before .before .before .before .before .known-told .given in (
       same (sym (ap (λ a. answerLine (answerOf a)) e)) (c .before .before .put-three .ensures),
-      rw e (solved-most _ _ _ (omega (arith, t)) (omega (arith, t)) (omega (arith, t))),
+      rw e (solved-most _ (omega (arith, t)) (omega (arith, t)) (omega (arith, t))),
     )
 
 same-length-2 : tie.Need-same-length-2
@@ -67,7 +67,7 @@ returns-2 c =
     let e = c .before .before .before .before .before .before .answer2 .given .1 in
     let t = c .before .before .before .before .before .known-told2 .given in (
       same (sym (ap (λ a. answerLine (answerOf a)) e)) (c .before .before .put-two .ensures),
-      rw e (spent-most _ _ (omega (arith, t)) (omega (arith, t))),
+      rw e (spent-most (c .before .before .before .before .before .before .answer2 .given .0 .0) (omega (arith, t)) (omega (arith, t))),
     )
 
 same-length-3 : tie.Need-same-length-3

@@ -43,9 +43,9 @@ run-requires c κs =
       record { states = l .states-are; give = c .before .before .before .before .before .give-up-cost .ensures },
       long (c .before .before .before .before .before .before .before .before .before .before .before .before .before .before .before .before .before .before .before .before .before .before .before .before .before .before .pre) .budget-high,
       record {
-        within = omega (arith, c .unbegun .ensures);
-        counted = omega (arith, c .unbegun .ensures);
-        few = omega (arith, c .unbegun .ensures);
+        within = rw (c .unbegun .ensures .0) (omega arith);
+        counted = rw (c .unbegun .ensures .0) (omega arith);
+        few = omega (arith, c .unbegun .ensures .1);
       },
     )
 
