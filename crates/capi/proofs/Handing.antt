@@ -18,7 +18,7 @@ use Rattle.model.specs.Following.{done, Report, opening, report}
 use Rattle.model.specs.Interface.{Handed, handing, Hands}
 use Rattle.model.specs.Promises.{Answered}
 use Rattle.model.specs.declared.Follower.{Follower}
-use Rattle.guarantee.specs.Answers.{followed-done}
+use Rattle.guarantee.specs.Carries.{followed-done}
 use Rattle.guarantee.specs.Follows.{Shown, opening-shown, report-shown}
 use Rattle.following.specs.declared.Stepped.{Stepped}
 use Rattle.capi.specs.Steps.{Showable}

@@ -21,8 +21,9 @@ use Rattle.model.specs.Sections.{problemOf, outcomeAt, goalByteOf}
 use Rattle.model.specs.Value.{byState}
 use Rattle.guarantee.specs.Searches.{each-yes, then-first}
 use Rattle.guarantee.specs.Tables.{fill-entry}
-use Rattle.guarantee.specs.Undercutting.{undercut-state-same, undercut-row-same}
-use Rattle.guarantee.specs.WellFormed.{between-high, settings-yes}
+use Rattle.guarantee.specs.Undercuts.{SameRows, undercut-state-same, undercut-row-same}
+use Rattle.guarantee.specs.WellFormed.{between-high, settings-yes, successors-states}
+use Rattle.guarantee.specs.Values.{rowValue-same}
 use Rattle.reading.specs.declared.layout.Layout.{Layout}
 use Rattle.reading.specs.declared.settings.Settings.{Settings}
 use Rattle.checking.specs.Stretches.{RowsAsked, RowsAnswered, ValuesAsked, ValuesAnswered}
@@ -186,16 +187,27 @@ module _ {f index : List ℕ} {l : Layout} (asked : ValuesAsked f index l) where
     within : (j : ℕ) → j < problemOf f .states → endRow (problemOf f) j ≤ problemOf f .rows
     within = index-ready (asked .indexed) (asked .total-known) passed .rows-within
 
+    rows-same : SameRows (problemOf f) (problemOf f) (byState values) (problemOf f .estimate)
+    rows-same =
+        record {
+          states = refl;
+          values = agree;
+          first-rows = λ j h. refl;
+          row-counts = λ j h. refl;
+          row-values =
+              λ j r h high.
+              rowValue-same (problemOf f) r _ _
+              (λ o i. agree (o .successor) (successors-states (problemOf f) passed r (omega (arith, within j h)) o i));
+        }
+
     same-state : s ≡ undercutState (problemOf f) (problemOf f .estimate)
-    same-state =
-        found .state-is ∙ undercut-state-same (problemOf f) (byState values) (problemOf f .estimate) passed within agree
+    same-state = found .state-is ∙ undercut-state-same _ _ _ _ rows-same
 
     pub eleven-no : s < l .states → estimateQuestion (problemOf f) ≡ fails 11 r
     unfolding estimateQuestion
     eleven-no h =
         let below : s < problemOf f .states = rw (← asked .laid .states-are) h in
-        let same = undercut-row-same (problemOf f) (byState values) (problemOf f .estimate) passed within agree s below in
-        let row = found .row-is below ∙ same in
+        let row = found .row-is below ∙ undercut-row-same _ _ _ _ rows-same s below in
         rw (← same-state, lt-leb _ _ below, ← row)
 
     pub eleven-yes : l .states ≤ s → estimateQuestion (problemOf f) ≡ passes

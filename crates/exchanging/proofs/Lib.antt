@@ -2,5 +2,5 @@
 pub mod Inserting
 pub mod Shifting
 pub mod RowLoops
-pub mod Sections
+pub mod FormSections
 pub mod Replies

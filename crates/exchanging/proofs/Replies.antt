@@ -22,8 +22,8 @@ use Rattle.model.specs.declared.WriteAnswer.{WriteAnswer}
 use Rattle.guarantee.specs.Tables.{fill-entry}
 use Rattle.reading.specs.Ready.{Ready}
 use Rattle.writing.specs.Putting.{ends, uncut}
-use Rattle.exchanging.specs.Forms.{formOf, formCount, rowCodes, Accepted, Counted, formLength, FormAsked}
-use Rattle.exchanging.proofs.Sections.{codes-size, form-few, form-size}
+use Rattle.exchanging.specs.FormAsks.{formOf, formCount, rowCodes, Accepted, Counted, formLength, FormAsked}
+use Rattle.exchanging.proofs.FormSections.{codes-size, form-few, form-size}
 
 module _ (f out : List ℕ) where
   stops-file : {q i : ℕ} → fileQuestions f ≡ fails q i → exchange f out ≡ record { answer = refused q i; left = out }

@@ -1,4 +1,4 @@
 -- What the functions of this crate ask and promise, in the model's terms.
 pub mod Codes
 pub mod Gathers
-pub mod Forms
+pub mod FormAsks

@@ -28,7 +28,7 @@ ghost use Rattle.model.specs.Questions.{passes, layoutQuestions};
 ghost use Rattle.model.specs.Rounds.{fillTo};
 ghost use Rattle.model.specs.Sections.{problemOf};
 ghost use Rattle.model.specs.SetForm.{setForm};
-ghost use Rattle.exchanging.specs.Forms.{formOf, formCount, rowCodes, Accepted, rowAs, codeAs, formLength, FormAsked};
+ghost use Rattle.exchanging.specs.FormAsks.{formOf, formCount, rowCodes, Accepted, rowAs, codeAs, formLength, FormAsked};
 
 // Gathers the outcomes of the rows into the table, one row after the other, and fills in how many each has. Answers how many there
 // are in all.

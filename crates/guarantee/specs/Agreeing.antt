@@ -10,7 +10,7 @@ use lib.ListN.{getD}
 use lib.IntN.{pos, subℕ}
 use borrow.Author.Tests.{leb-false}
 use Rattle.model.specs.Limits.{giveUp}
-use Rattle.model.specs.Problem.{Problem, giveUpCost, endRow, ownRow}
+use Rattle.model.specs.Problem.{Problem, giveUpCost, ownRow}
 use Rattle.model.specs.Value.{rowValue}
 use Rattle.model.specs.Search.{first}
 use Rattle.model.specs.Walk.{walk, at-start, leastCost, leastOn, leastTo, pickCost, pickCostOn}
@@ -19,6 +19,7 @@ use Rattle.model.specs.Audit.{Audited, accepted, refused, orElse, pickValue, pi
 use Rattle.model.specs.Audit.{ownPick, strayState, slackState, tableQuestions}
 use Rattle.guarantee.specs.WellFormed.{WellFormed}
 use Rattle.guarantee.specs.Searches.{or-clear, first-same, first-at, each-yes, implied}
+use Rattle.guarantee.specs.Undercuts.{SameRows, undercut-row-same, undercut-state-same}
 use Rattle.guarantee.specs.Values.{rowValue-same-states}
 use Rattle.guarantee.specs.Walks.{rows-within, own-row, reached-marked, walk-same}
 use Rattle.guarantee.specs.Excess.{undercut-own}
@@ -79,22 +80,21 @@ module _ (p q : Problem) (formed : WellFormed p) (v w picks picks′ : ℕ → �
       (λ s low high. rw (alike .goals s (omega arith), alike .values s (omega arith), alike .penalty) refl)
       ∙ ap (first (λ s. boundedOn (q .goal s) (giveUpCost q) (w s)) 0) (alike .states)
 
-  row-same : (s : ℕ) → s < p .states → undercutRow p v s ≡ undercutRow q w s
-  unfolding undercutRow
-  row-same s l =
-      first-same (λ r. leb (v s) (rowValue p v r)) (λ r. leb (w s) (rowValue q w r)) (p .firstRow s) (p .rowCount s)
-      (λ r low high. ap₂ leb (alike .values s l) (alike .row-values r (omega (arith, rows-within p formed s l))))
-      ∙ ap₂ (first (λ r. leb (w s) (rowValue q w r))) (alike .first-rows s l) (alike .row-counts s l)
+  rows-alike : SameRows p q v w
+  rows-alike =
+      record {
+        states = alike .states;
+        values = alike .values;
+        first-rows = alike .first-rows;
+        row-counts = alike .row-counts;
+        row-values = λ s r l high. alike .row-values r (omega (arith, rows-within p formed s l));
+      }
 
-  end-same : (s : ℕ) → s < p .states → endRow p s ≡ endRow q s
-  end-same s l = ap₂ _+_ (alike .first-rows s l) (alike .row-counts s l)
+  row-same : (s : ℕ) → s < p .states → undercutRow p v s ≡ undercutRow q w s
+  row-same = undercut-row-same p q v w rows-alike
 
   state-same : undercutState p v ≡ undercutState q w
-  unfolding undercutState
-  state-same =
-      first-same (λ s. leb (endRow p s) (undercutRow p v s)) (λ s. leb (endRow q s) (undercutRow q w s)) 0 (p .states)
-      (λ s low high. ap₂ leb (end-same s (omega arith)) (row-same s (omega arith)))
-      ∙ ap (first (λ s. leb (endRow q s) (undercutRow q w s)) 0) (alike .states)
+  state-same = undercut-state-same p q v w rows-alike
 
   -- the refusal under question 17
   undercut-same

@@ -23,7 +23,7 @@ use Rattle.guarantee.specs.Standing.{At, at-whole, at-inside, at-moved, 
 use Rattle.guarantee.specs.Standing.{number-here, number-then, u16-at, u32-at, parts-length, count-read}
 use Rattle.guarantee.specs.Standing.{item-stands, section-same}
 use Rattle.guarantee.specs.Sums.{sum-same}
-use Rattle.guarantee.specs.TableFiles.{number-length}
+use Rattle.guarantee.specs.ReadsBack.{number-length}
 use Rattle.guarantee.specs.Walks.{rows-sum}
 use Rattle.guarantee.specs.Totals.{total-high}
 use Rattle.guarantee.specs.WellFormed.{WellFormed}

@@ -15,8 +15,8 @@ use lib.ListN.{getD, length, replicate, length-replicate}
 use borrow.Author.Tests.{leb-true, le-leb}
 use Rattle.model.specs.Bytes.{u16At, u32At}
 use Rattle.model.specs.Limits.{maxBudget, planRounds, giveUp, minRate, maxRate, rateCount}
-use Rattle.model.specs.Cases.{fileP, partnerP, penaltyP, tiedLater, rounding, valuesP, picksP, lent, planned, at, cases-hold}
-use Rattle.model.specs.Cases.{others-hold, forms-hold}
+use Rattle.model.specs.CaseFiles.{fileP, partnerP, penaltyP, tiedLater, rounding, valuesP, picksP, lent, planned, at}
+use Rattle.model.specs.Computed.{cases-hold, others-hold, forms-hold}
 use Rattle.model.specs.Problem.{Problem, Outcome, giveUpCost}
 use Rattle.model.specs.Lines.{runStates, listed}
 use Rattle.model.specs.Search.{first, sumTo}

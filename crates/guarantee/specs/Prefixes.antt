@@ -26,7 +26,7 @@ use Rattle.model.specs.Solution.{Tables, solution, solutionOn}
 use Rattle.model.specs.Audit.{refused, orElse, problemAudit, audit, auditOn}
 use Rattle.guarantee.specs.WellFormed.{WellFormed, section-there, between-high, well-formed, sectioned}
 use Rattle.guarantee.specs.Agreeing.{tables-same}
-use Rattle.guarantee.specs.TableFiles.{u16-front, entries16-front, entries32-front}
+use Rattle.guarantee.specs.ReadsBack.{u16-front, entries16-front, entries32-front}
 
 -- what was read of an input: where the buffer is not full it is the input, else the input begins with it
 module _ (f buffer : List ℕ) (n : ℕ) (read : ReadOf f buffer n) where

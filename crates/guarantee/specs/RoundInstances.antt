@@ -9,7 +9,8 @@ use lib.ListN.{getD, replicate}
 use borrow.Author.Tests.{leb-true}
 use Rattle.model.specs.Bytes.{u16At, u32At}
 use Rattle.model.specs.Limits.{planRounds, noPick}
-use Rattle.model.specs.Cases.{fileP, penaltyP, tied, tiedLater, picksP, lent, planned, requested-hold}
+use Rattle.model.specs.CaseFiles.{fileP, penaltyP, tied, tiedLater, picksP, lent, planned}
+use Rattle.model.specs.Computed.{requested-hold}
 use Rattle.model.specs.Problem.{giveUpCost, ownRow}
 use Rattle.model.specs.Search.{sumTo}
 use Rattle.model.specs.Value.{byState, rowValue, weightedSum}

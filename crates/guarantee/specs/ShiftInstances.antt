@@ -10,7 +10,8 @@ use lib.ListN.{getD, length, replicate}
 use borrow.Author.Tests.{le-leb, lt-ltb}
 use Rattle.model.specs.Bytes.{u16At, u32At}
 use Rattle.model.specs.Limits.{maxMoves, maxSpent}
-use Rattle.model.specs.Cases.{fileP, penaltyP, rounding, valuesP, picksP, gives, valuesGives, at, cases-hold, requested-hold}
+use Rattle.model.specs.CaseFiles.{fileP, penaltyP, rounding, valuesP, picksP, gives, valuesGives, at}
+use Rattle.model.specs.Computed.{cases-hold, requested-hold}
 use Rattle.model.specs.Search.{sumTo}
 use Rattle.model.specs.Value.{byState}
 use Rattle.model.specs.Sections.{statesAt, rowsAt, outcomesAt, outcomesFrom, secondsOn, problemOf}

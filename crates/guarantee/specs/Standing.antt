@@ -11,7 +11,7 @@ use lib.ListN.{length, getD, drop, length-append}
 use lib.Seq.{drop-drop, drop-append-seam, getD-drop}
 use Rattle.model.specs.Bytes.{u16At, u32At, numberBytes}
 use Rattle.model.specs.Encoding.{partsTo}
-use Rattle.guarantee.specs.TableFiles.{number-length}
+use Rattle.guarantee.specs.ReadsBack.{number-length}
 
 pub record At (f : List ℕ) (i : ℕ) (l : List ℕ) : Type 0 where
   rest : List ℕ

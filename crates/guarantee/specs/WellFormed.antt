@@ -268,6 +268,12 @@ unfolding outcomesObey
 outcome-obeys n W (here {a = a} {l = l}) h = and-left (outcomeObeys n W a) (outcomesObey n W l) h
 outcome-obeys n W (there {b = b} {l = l} i) h = outcome-obeys n W i (and-right (outcomeObeys n W b) (outcomesObey n W l) h)
 
+pub successors-states : (p : Problem) → outcomeQuestion p ≡ passes → (r : ℕ) → r < p .rows → (o : Outcome) → In o (p .outcomes r)
+    → o .successor < p .states
+unfolding outcomeQuestion
+successors-states p h r l o i =
+    ltb-true _ _ (and-left _ _ (outcome-obeys (p .states) (p .total) i (and-left _ _ (ask-each-yes 10 (p .rows) _ h r l))))
+
 -- questions 4 and 24: what they ask of each setting
 pub settings-yes : (p : Problem) → settingQuestions p ≡ passes
     → (ltb (p .start) (p .states) ≡ true)

@@ -25,4 +25,7 @@ pub mod TableFiles
 pub mod Cover
 pub mod Interface
 pub mod Promises
+pub mod CaseFiles
 pub mod Cases
+pub mod Requested
+pub mod Computed

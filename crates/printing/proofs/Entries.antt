@@ -5,7 +5,7 @@ use native.Mathlib.Numerals.{add-one}
 use mathlib.Core.List.{[], _∷_, _++_}
 use lib.ListN.{drop, take-append-drop}
 use Rattle.model.specs.TableFiles.{listTo}
-use Rattle.guarantee.specs.TableFiles.{list-front}
+use Rattle.guarantee.specs.ReadsBack.{list-front}
 
 -- no entries, one more, and those that are left
 module _ (g : ℕ → ℕ) where

@@ -15,7 +15,7 @@ use Rattle.model.specs.Sections.{problemOf, lengthSeconds, rateSeconds, seconds
 use Rattle.model.specs.Sections.{outcomeCountOf}
 use Rattle.model.specs.Value.{weightedSum, rowValue, rowRemainder}
 use Rattle.guarantee.specs.Parts.{outcomes-count}
-use Rattle.guarantee.specs.TableFiles.{u16-front}
+use Rattle.guarantee.specs.ReadsBack.{u16-front}
 use Rattle.reading.specs.Ready.{Ready, RowReady, SumThere}
 use Rattle.reading.specs.RowParts.{part-size, part-reads, part-begins, part-ends, partFrom, partTo, rows-end}
 use Rattle.reading.specs.Tests.{rowsBase, partOf, partBytes, outcomesIn}

@@ -1,5 +1,5 @@
 -- Laws that the proofs of this crate cite.
 pub mod Filling
 pub mod Running
-pub mod Finishing
+pub mod Answering
 pub mod Promising

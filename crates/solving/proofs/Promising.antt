@@ -7,7 +7,7 @@ use Rattle.model.specs.Answers.{answerCarries}
 use Rattle.model.specs.Carried.{Said, Carried, ended}
 use Rattle.model.specs.Promises.{Leaves, EndsSolved, PassesAudit}
 use Rattle.model.specs.Solution.{Tables, solution}
-use Rattle.guarantee.specs.Answers.{answer-solved}
+use Rattle.guarantee.specs.Carries.{answer-solved}
 use Rattle.guarantee.specs.Guarantee.{acceptance}
 use Rattle.guarantee.specs.Solutions.{solution-ends}
 

@@ -11,7 +11,7 @@ use lib.Seq.{slice, take-all, take-at, take-take, take-append-le, drop-at, lengt
 use Rattle.model.specs.Buffers.{Holds, copied}
 use Rattle.model.specs.Bytes.{numberBytes}
 use Rattle.guarantee.specs.Tables.{same-further}
-use Rattle.guarantee.specs.TableFiles.{number-length}
+use Rattle.guarantee.specs.ReadsBack.{number-length}
 
 cut-again : (n : ℕ) (x y : List ℕ) → take n (take n x ++ y) ≡ take n (x ++ y)
 cut-again zero x y = refl

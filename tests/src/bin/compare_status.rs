@@ -497,14 +497,14 @@ impl Repository {
         let folder = Folder::new(&format!("compare-status-{number}"));
         let top = room.plan.script.path().parent().expect("a folder");
         for name in
-            [".ci", "bin", "tools", "crates/low/src", "crates/low/answers", "crates/plan/specs"]
+            ["start", "bin", "tools", "crates/low/src", "crates/low/answers", "crates/plan/specs"]
         {
             std::fs::create_dir_all(folder.path(name)).expect("a folder can be made");
         }
         for name in ["crates/high/proofs/f", "crates/other/src"] {
             std::fs::create_dir_all(folder.path(name)).expect("a folder can be made");
         }
-        for name in ["plan", ".ci/program", ".ci/status", ".ci/build"] {
+        for name in ["plan", "start/program", "start/status", "start/build"] {
             std::fs::copy(top.join(name), folder.path(name)).expect("a script");
         }
         folder.put("crates.txt", Some(CRATES.as_bytes()));

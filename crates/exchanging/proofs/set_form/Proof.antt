@@ -8,8 +8,8 @@ use Rattle.model.specs.Encoding.{settingNumber}
 use Rattle.model.specs.Limits.{maxOutcomes}
 use Rattle.model.specs.Questions.{passes, fileQuestions}
 use Rattle.guarantee.specs.Encodings.{setting-number-high}
-use Rattle.exchanging.specs.Forms.{formOf}
-use Rattle.exchanging.proofs.Sections.{number-is}
+use Rattle.exchanging.specs.FormAsks.{formOf}
+use Rattle.exchanging.proofs.FormSections.{number-is}
 use Rattle.exchanging.proofs.Replies.{accepts, file-refused, too-short, form-written, outcomes-few, size-is, form-asked}
 use borrow.Author.Needs.{needs}
 use native.Mathlib.Omega.{arith}

@@ -6,7 +6,7 @@ use lib.ListN.{length}
 use lib.Seq.{length-take-le}
 use Rattle.model.specs.Buffers.{lineMost}
 use Rattle.model.specs.Limits.{maxStates}
-use Rattle.guarantee.specs.Answers.{audited-known}
+use Rattle.guarantee.specs.Carries.{audited-known}
 use Rattle.guarantee.specs.Prefixes.{longestFile}
 use Rattle.programs.proofs.Planning.{read-front, audit-read, audits}
 use borrow.Author.Needs.{needs}

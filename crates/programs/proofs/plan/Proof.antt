@@ -7,7 +7,7 @@ use lib.ListN.{length}
 use lib.Seq.{length-take-le}
 use Rattle.model.specs.Buffers.{planRoom}
 use Rattle.model.specs.Limits.{maxStates}
-use Rattle.guarantee.specs.Answers.{answer-known}
+use Rattle.guarantee.specs.Carries.{answer-known}
 use Rattle.guarantee.specs.Prefixes.{longestFile}
 use Rattle.programs.proofs.Planning.{run-room, plans, read-front, plans-read}
 use Rattle.programs.proofs.Remaining.{table-long, table-low}

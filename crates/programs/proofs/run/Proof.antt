@@ -6,7 +6,7 @@ use native.Mathlib.Nat.{le-trans, le-of-eq}
 use Prim.Native.Nat.{ℕ}
 use lib.ListN.{length-replicate}
 use Rattle.reading.specs.Tests.{indexSize}
-use Rattle.guarantee.specs.Answers.{answer-known}
+use Rattle.guarantee.specs.Carries.{answer-known}
 use Rattle.programs.proofs.Planning.{run-room, run-said}
 use Rattle.programs.proofs.run.Statement.{statement}
 use Rattle.programs.proofs.run.Tie as tie

@@ -4,7 +4,7 @@ use Prim.Native.Nat.{ℕ}
 use lib.ListN.{length-replicate}
 use mathlib.Core.Path.{_∙_, sym, ap}
 use Rattle.model.specs.Answers.{verdictCarries}
-use Rattle.guarantee.specs.Answers.{verdict-carries}
+use Rattle.guarantee.specs.Carries.{verdict-carries}
 use Rattle.reading.specs.Tests.{indexSize}
 use Rattle.checking.proofs.questions.check.Statement.{statement}
 use Rattle.checking.proofs.questions.check.Tie as tie

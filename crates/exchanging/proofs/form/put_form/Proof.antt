@@ -1,7 +1,7 @@
 -- `put_form` puts the four sections one after the other: together they are the set form.
 -- Made by `places make` from answers/form/put_form.ans: edit that file, and not this one.
-use Rattle.exchanging.proofs.Sections.{form-long, form-put, form-few}
-use Rattle.exchanging.proofs.Sections.{settings-room, states-room, rows-room, outcomes-room}
+use Rattle.exchanging.proofs.FormSections.{form-long, form-put, form-few}
+use Rattle.exchanging.proofs.FormSections.{settings-room, states-room, rows-room, outcomes-room}
 use native.Mathlib.Omega.{arith}
 use Rattle.exchanging.proofs.form.put_form.Statement.{statement}
 use Rattle.exchanging.proofs.form.put_form.Tie as tie

@@ -5,8 +5,8 @@ use Prim.Native.Nat.{_-_}
 use Rattle.model.specs.Encoding.{partsTo}
 use Rattle.guarantee.specs.Standing.{parts-next}
 use Rattle.writing.specs.Putting.{Grown, grown-starts, grown-goes-on, grown-ends, grown-room, after, number-ends}
-use Rattle.exchanging.specs.Forms.{codeAs}
-use Rattle.exchanging.proofs.Sections.{code-size}
+use Rattle.exchanging.specs.FormAsks.{codeAs}
+use Rattle.exchanging.proofs.FormSections.{code-size}
 use native.Mathlib.Omega.{arith}
 use Rattle.exchanging.proofs.form.put_outcomes.Statement.{statement}
 use Rattle.exchanging.proofs.form.put_outcomes.Tie as tie

@@ -5,8 +5,8 @@ use Prim.Native.Nat.{_-_}
 use Rattle.model.specs.Encoding.{partsTo}
 use Rattle.guarantee.specs.Standing.{parts-next}
 use Rattle.writing.specs.Putting.{Grown, grown-starts, grown-goes-on, grown-ends, grown-room, after, number-ends}
-use Rattle.exchanging.specs.Forms.{rowAs}
-use Rattle.exchanging.proofs.Sections.{rows-size}
+use Rattle.exchanging.specs.FormAsks.{rowAs}
+use Rattle.exchanging.proofs.FormSections.{rows-size}
 use native.Mathlib.Omega.{arith}
 use Rattle.exchanging.proofs.form.put_rows.Statement.{statement}
 use Rattle.exchanging.proofs.form.put_rows.Tie as tie

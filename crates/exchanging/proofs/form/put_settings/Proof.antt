@@ -6,8 +6,8 @@ use Rattle.model.specs.Bytes.{numberBytes}
 use Rattle.model.specs.Encoding.{settingNumber}
 use Rattle.guarantee.specs.Encodings.{setting-number-low}
 use Rattle.writing.specs.Putting.{same, more, after, number-ends}
-use Rattle.exchanging.specs.Forms.{formOf}
-use Rattle.exchanging.proofs.Sections.{number-is, three-settings, four-settings, four-room}
+use Rattle.exchanging.specs.FormAsks.{formOf}
+use Rattle.exchanging.proofs.FormSections.{number-is, three-settings, four-settings, four-room}
 use borrow.Author.Needs.{needs}
 use native.Mathlib.Omega.{arith}
 use Rattle.exchanging.proofs.form.put_settings.Statement.{statement}

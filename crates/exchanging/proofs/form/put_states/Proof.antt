@@ -6,7 +6,7 @@ use Rattle.model.specs.Encoding.{partsTo, stateBytes}
 use Rattle.guarantee.specs.Encodings.{states-long}
 use Rattle.guarantee.specs.Standing.{parts-next}
 use Rattle.writing.specs.Putting.{Grown, grown-starts, grown-goes-on, grown-ends, grown-room, after, number-ends}
-use Rattle.exchanging.specs.Forms.{formOf}
+use Rattle.exchanging.specs.FormAsks.{formOf}
 use native.Mathlib.Omega.{arith}
 use Rattle.exchanging.proofs.form.put_states.Statement.{statement}
 use Rattle.exchanging.proofs.form.put_states.Tie as tie

@@ -3,7 +3,7 @@
 use mathlib.Core.Path.{ap}
 use mathlib.Core.List.{_++_}
 use lib.ListN.{take}
-use Rattle.guarantee.specs.TableFiles.{number-length}
+use Rattle.guarantee.specs.ReadsBack.{number-length}
 use Rattle.writing.specs.Putting.{same, filled}
 use borrow.Author.Needs.{needs}
 use Rattle.printing.proofs.table_files.put_pick.Statement.{statement}

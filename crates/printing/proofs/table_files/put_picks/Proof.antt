@@ -1,6 +1,6 @@
 -- `put_picks` puts every entry, and there is room for those of as many states as a file can have.
 -- Made by `places make` from answers/table_files/put_picks.ans: edit that file, and not this one.
-use Rattle.guarantee.specs.TableFiles.{bytes-length}
+use Rattle.guarantee.specs.ReadsBack.{bytes-length}
 use Rattle.writing.specs.Putting.{uncut}
 use borrow.Author.Needs.{needs}
 use native.Mathlib.Omega.{arith}

@@ -5,7 +5,7 @@ use native.Mathlib.Nat.{le-trans, le-of-eq}
 use Rattle.model.specs.Answers.{verdictOf}
 use Rattle.model.specs.Questions.{fileQuestions, layoutQuestions}
 use Rattle.model.specs.Sections.{problemOf}
-use Rattle.guarantee.specs.Answers.{verdict-known}
+use Rattle.guarantee.specs.Carries.{verdict-known}
 use Rattle.guarantee.specs.Searches.{then-first}
 use Rattle.guarantee.specs.WellFormed.{well-formed}
 use Rattle.programs.specs.Checked.{passedStates}

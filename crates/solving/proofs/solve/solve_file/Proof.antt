@@ -2,7 +2,7 @@
 -- Made by `places make` from answers/solve/solve_file.ans: edit that file, and not this one.
 use mathlib.Core.Path.{refl, _∙_, sym, ap}
 use Rattle.model.specs.Answers.{verdictOf}
-use Rattle.solving.proofs.Finishing.{file-refused, tables-refused, tests-are}
+use Rattle.solving.proofs.Answering.{file-refused, tables-refused, tests-are}
 use borrow.Author.Needs.{needs}
 use Rattle.solving.proofs.solve.solve_file.Statement.{statement}
 use Rattle.solving.proofs.solve.solve_file.Tie as tie

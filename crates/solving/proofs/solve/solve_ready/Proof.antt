@@ -1,7 +1,7 @@
 -- `solve_ready` leaves the model's solution: the tables as the machine begins, its run, the list ended, what the run carries.
 -- Made by `places make` from answers/solve/solve_ready.ans: edit that file, and not this one.
 use mathlib.Core.Path.{_∙_}
-use Rattle.solving.proofs.Finishing.{solvable-formed, long, start-scannable, tables-begun, start-runnable, run-leaves}
+use Rattle.solving.proofs.Answering.{solvable-formed, long, start-scannable, tables-begun, start-runnable, run-leaves}
 use borrow.Author.Needs.{needs}
 use native.Mathlib.Omega.{arith}
 use Rattle.solving.proofs.solve.solve_ready.Statement.{statement}

@@ -3,7 +3,7 @@
 use mathlib.Core.Path.{ap}
 use mathlib.Core.List.{_++_}
 use lib.ListN.{take}
-use Rattle.guarantee.specs.TableFiles.{two-and-two}
+use Rattle.guarantee.specs.ReadsBack.{two-and-two}
 use Rattle.writing.specs.Putting.{same, after, number-ends}
 use borrow.Author.Needs.{needs}
 use native.Mathlib.Omega.{arith}

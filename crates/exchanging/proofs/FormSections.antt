@@ -29,7 +29,7 @@ use Rattle.guarantee.specs.Tables.{fill-next}
 use Rattle.guarantee.specs.Standing.{parts-length, parts-next, parts-same}
 use Rattle.guarantee.specs.Searches.{sum-room}
 use Rattle.guarantee.specs.Sums.{sum-below}
-use Rattle.guarantee.specs.TableFiles.{number-length, bytes-append, bytes-next}
+use Rattle.guarantee.specs.ReadsBack.{number-length, bytes-append, bytes-next}
 use Rattle.guarantee.specs.Totals.{total-high}
 use Rattle.guarantee.specs.WellFormed.{WellFormed, well-formed}
 use Rattle.reading.specs.Bounds.{maxByte}
@@ -38,7 +38,7 @@ use Rattle.reading.specs.Laid.{SettingsOf}
 use Rattle.reading.specs.RowParts.{index-seconds, outcomes-read}
 use Rattle.reading.specs.Tests.{outcomesIn}
 use Rattle.writing.specs.Putting.{Grown, grown-starts, grown-goes-on, ends, more, after, same, is-copied}
-use Rattle.exchanging.specs.Forms.{formOf, formCount, rowCodes, Accepted, Counted, rowAs, codeAs, formLength, FormAsked}
+use Rattle.exchanging.specs.FormAsks.{formOf, formCount, rowCodes, Accepted, Counted, rowAs, codeAs, formLength, FormAsked}
 use Rattle.exchanging.proofs.Inserting.{codes-length, codes-bytes}
 use Rattle.exchanging.proofs.RowLoops.{RowPart}
 

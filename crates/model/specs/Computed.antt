@@ -1,0 +1,77 @@
+-- All cases hold, by computing.
+use mathlib.Core.Path.{refl}
+use Rattle.model.specs.Bytes.{u16At, u32At, numberBytes}
+use Rattle.model.specs.Search.{first, sumTo}
+use Rattle.model.specs.Value.{weightedSum, totalWeight, rowValue, rowRemainder, pickRemainder}
+use Rattle.model.specs.Sections.{statesAt, rowsAt, outcomesAt, fileEnd, lengthSeconds, rateSeconds, secondsOn}
+use Rattle.model.specs.Sections.{outcomesFrom, problemOf}
+use Rattle.model.specs.Questions.{sectionQuestions, endQuestion, layoutQuestions, settingQuestions, stateObeys}
+use Rattle.model.specs.Questions.{stateQuestion, startQuestion, rowNumberQuestion, costObeys, rowObeys, rowQuestion}
+use Rattle.model.specs.Questions.{outcomeNumberQuestion, outcomesObey, outcomeQuestion, undercutRow, undercutState}
+use Rattle.model.specs.Questions.{estimateQuestion, itemQuestions, fileQuestions}
+use Rattle.model.specs.Walk.{walk, visitState, visitOutcomes, next, leastCost, leastTo, pickCost}
+use Rattle.model.specs.Rounds.{beats, evaluateOn, settle, raiseOn, machineStart, fillTo, listTable}
+use Rattle.model.specs.Solution.{solution, solutionOn, solutionOf, solveQuestions, checkedRunFrom}
+use Rattle.model.specs.Solution.{checkedRound, checkedBackups, checkedBackup, checkedScan}
+use Rattle.model.specs.Traversal.{takenIf, othersFrom, traverse}
+use Rattle.model.specs.Solution.{checkedConsider, checkedConsiderOn, checkedEvaluate}
+use Rattle.model.specs.Audit.{audit, problemAudit, tableQuestions, unboundedState, strayState, slackState}
+use Rattle.model.specs.Audit.{pickValue}
+use Rattle.model.specs.Following.{leadsTo, moveSeconds, wayTo, waySeconds, hasOutcome, reportQuestions, opening}
+use Rattle.model.specs.Following.{moved, report, reports, acceptedOf}
+use Rattle.model.specs.Lines.{planText, answerLine, stateLines, stateLine, listed, runStates}
+use Rattle.model.specs.Lines.{decimal, decimalFrom, auditLine}
+use Rattle.model.specs.Encoding.{partsTo, settingNumber, settingBytes, stateBytes, rowBytes, outcomeBytes, encode}
+use Rattle.model.specs.SetForm.{weightTo, gathered, inSetForm, setForm, exchangeQuestions, exchange}
+use Rattle.model.specs.Sheets.{rateLine, rateLines}
+use Rattle.model.specs.TableFiles.{entries16, tableBytes, listTo}
+use Rattle.model.specs.CaseFiles.{All}
+use Rattle.model.specs.Cases.{cases, others}
+use Rattle.model.specs.Requested.{requested, forms, totals}
+
+infixr 40 _and_
+abbrev _and_ : {A B : Type 0} → A → B → A × B
+a and b = (a, b)
+
+computed : All cases × All others × All requested × All forms × All totals
+unfolding fileQuestions layoutQuestions sectionQuestions endQuestion settingQuestions itemQuestions stateQuestion stateObeys startQuestion
+    rowNumberQuestion rowQuestion rowObeys costObeys outcomeNumberQuestion outcomeQuestion outcomesObey estimateQuestion undercutState
+    undercutRow first sumTo rowValue rowRemainder pickRemainder weightedSum totalWeight problemOf statesAt rowsAt outcomesAt fileEnd
+    outcomesFrom lengthSeconds rateSeconds secondsOn u16At u32At
+    solution solutionOn solutionOf solveQuestions checkedRunFrom checkedRound checkedBackups checkedBackup checkedScan
+    traverse othersFrom takenIf checkedConsider checkedConsiderOn checkedEvaluate beats evaluateOn settle raiseOn machineStart fillTo listTable
+    walk visitState visitOutcomes next leastCost leastTo pickCost
+    audit problemAudit tableQuestions unboundedState strayState slackState pickValue
+    opening report reports acceptedOf reportQuestions moved leadsTo moveSeconds hasOutcome wayTo waySeconds
+    planText answerLine stateLines stateLine listed runStates decimal decimalFrom auditLine numberBytes tableBytes listTo entries16
+    rateLine rateLines
+    partsTo settingNumber settingBytes stateBytes rowBytes outcomeBytes encode weightTo gathered inSetForm setForm exchangeQuestions exchange
+computed = (
+  refl and refl and refl and refl and refl and refl and refl and refl and refl and refl
+      and refl and refl and refl and refl and refl and refl and refl and refl and refl and tt,
+  refl and refl and refl and refl and refl and refl and refl and refl and refl and refl
+      and refl and refl and refl and refl and tt,
+  refl and refl and refl and refl and refl and refl and refl and refl
+      and refl and refl and refl and refl and refl and refl and refl and refl
+      and refl and refl and refl and refl and refl and refl and refl and refl and refl
+      and refl and refl and refl and refl and refl
+      and refl and refl and refl and refl and tt,
+  refl and refl and refl and refl and refl and refl and refl and refl and tt,
+  refl and refl and refl and refl and refl and refl and refl and refl and refl and refl and refl and refl
+      and refl and refl and refl and refl and refl and refl and tt,
+)
+
+pub cases-hold : All cases
+cases-hold = computed .0
+
+pub others-hold : All others
+others-hold = computed .1
+
+pub requested-hold : All requested
+requested-hold = computed .2
+
+pub forms-hold : All forms
+forms-hold = computed .3
+
+pub totals-hold : All totals
+totals-hold = computed .4
