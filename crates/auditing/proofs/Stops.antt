@@ -85,7 +85,7 @@ module _ {f index values picks : List ℕ} {n : ℕ} (asked : TablesAsked f inde
         arith,
         rw (under .state-is) at (under .row-is (omega (arith, asked .states-are))),
         own,
-        asked .walkable .ready .rows-within _ below,
+        asked .walkable .ready .indexed .within .rows-within _ below,
       )
 
 -- questions 1 to 11, then 15, and then the tables

@@ -79,14 +79,14 @@ pub state-rows
     : {f index : List ℕ} {s : ℕ} → Ready f index → s < problemOf f .states
     → StateRows (problemOf f) s (getD index s 0) (getD index (s + 1) 0)
 state-rows {f} {index} {s} h l =
-    let low : getD index s 0 ≡ problemOf f .firstRow s = h .first-row s (omega arith) in
-    let high : getD index (s + 1) 0 ≡ endRow (problemOf f) s = h .first-row (s + 1) (omega arith) ∙ rw add-one (h .rows-follow s) in
+    let low : getD index s 0 ≡ problemOf f .firstRow s = h .indexed .first-row s (omega arith) in
+    let high : getD index (s + 1) 0 ≡ endRow (problemOf f) s = h .indexed .first-row (s + 1) (omega arith) ∙ rw add-one (h .indexed .within .rows-follow s) in
     record {
       low = low;
       high = high;
       order = omega arith;
-      within = omega (arith, h .rows-within s l);
-      few = omega (arith, h .rows-within s l, h .rows-high);
+      within = omega (arith, h .indexed .within .rows-within s l);
+      few = omega (arith, h .indexed .within .rows-within s l, h .indexed .within .rows-high);
     }
 
 -- the row picked before, and then the others, are the scan of the state

@@ -185,7 +185,7 @@ module _ {f index : List ℕ} {l : Layout} (asked : ValuesAsked f index l) where
         rw filled (fill-entry (problemOf f .estimate) (replicate maxStates 0) (l .states) j long below)
 
     within : (j : ℕ) → j < problemOf f .states → endRow (problemOf f) j ≤ problemOf f .rows
-    within = index-ready (asked .indexed) (asked .total-known) passed .rows-within
+    within = asked .indexed .within .rows-within
 
     rows-same : SameRows (problemOf f) (problemOf f) (byState values) (problemOf f .estimate)
     rows-same =

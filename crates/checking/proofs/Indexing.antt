@@ -20,10 +20,9 @@ use Rattle.guarantee.specs.Parts.{obey-successor}
 use Rattle.guarantee.specs.Searches.{and-left, ask-each-yes, first-same}
 use Rattle.guarantee.specs.Tables.{fill-length, fill-entry, pair-first, pair-second, pair-other}
 use Rattle.reading.specs.RowParts.{part-reads, part-begins, part-ends, outcomes-read}
-use Rattle.checking.specs.Indexed.{Indexed}
 use Rattle.checking.specs.IndexLeft.{statesFilled, rowsFilled}
 use Rattle.reading.specs.Fields.{within}
-use Rattle.reading.specs.Ready.{Ready}
+use Rattle.reading.specs.Ready.{Indexed, Ready}
 use Rattle.reading.specs.Bounds.{byteBound}
 use Rattle.reading.specs.Tests.{rowsBase, indexSize, rowEntries, allEntries}
 use Rattle.reading.specs.Tests.{partOf, outcomesIn}
@@ -170,18 +169,9 @@ module _ {f index : List ℕ} (h : Indexed f index) where
   unfolding outcomeQuestion
   index-ready known passed =
       record {
-        whole = h .whole;
+        indexed = h;
         total-known = known;
-        size = h .size;
-        first-row = h .first-row;
-        outcomes-at = h .outcomes-at;
-        ticks = h .ticks;
-        states-high = h .within .states-high;
-        rows-high = h .within .rows-high;
-        rows-follow = h .within .rows-follow;
-        rows-within = h .within .rows-within;
         outcomes-follow = starts-follow;
-        outcomes-few = h .outcomes-few;
         outcomes-there = λ r l. omega (arith, h .within .outcomes-within r l, starts-follow r);
         successor-there = λ r i l k.
             let p = problemOf f in

@@ -39,7 +39,7 @@ module _ {f index : List ℕ} {l : Layout} (laid : LaidOut f l) (h : Ready f ind
   stretch-ends =
       let a = rows-begin f index h s below in
       let b = rows-end f index h s below in
-      let c = h .rows-within s below in
+      let c = h .indexed .within .rows-within s below in
       let o : getD index s 0 ≤ getD index (s + 1) 0 = omega arith in
       let t : getD index (s + 1) 0 ≤ l .rows = omega (arith, laid .rows-are) in
       record {

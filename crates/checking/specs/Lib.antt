@@ -1,5 +1,4 @@
 -- What the functions of this crate promise, in the model's terms.
 pub mod ItemTests
-pub mod Indexed
 pub mod IndexLeft
 pub mod Stretches

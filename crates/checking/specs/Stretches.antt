@@ -10,10 +10,9 @@ use Rattle.model.specs.Questions.{estimateQuestion, fileQuestions}
 use Rattle.model.specs.Search.{oneOf}
 use Rattle.model.specs.Sections.{problemOf}
 use Rattle.reading.specs.declared.layout.Layout.{Layout}
-use Rattle.checking.specs.Indexed.{Indexed}
 use Rattle.checking.specs.IndexLeft.{rowsLeft, itemsLeft, indexLeft}
 use Rattle.reading.specs.Laid.{LaidOut}
-use Rattle.reading.specs.Ready.{Ready}
+use Rattle.reading.specs.Ready.{Indexed, Ready}
 
 -- questions 1 to 3 have said yes, and this is the layout
 pub record RowsAsked (f : List ℕ) (l : Layout) : Type 0 where
@@ -27,7 +26,6 @@ pub record RowsAnswered (f before after : List ℕ) (said : Verdict) : Type 0 wh
   pub indexed : said ≡ passes → Indexed f after
 
 pub record ValuesAsked (f index : List ℕ) (l : Layout) : Type 0 where
-  pub whole : layoutQuestions f ≡ passes
   pub laid : LaidOut f l
   pub total-known : oneOf (problemOf f .total) weightTotals ≡ true
   pub indexed : Indexed f index

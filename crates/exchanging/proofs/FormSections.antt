@@ -153,7 +153,7 @@ module _ {f index : List ℕ} (h : Accepted f index) (r : ℕ) (l : r < problemO
   pub row-few : formCount f r ≤ maxByte
   row-few =
       let number = ap length (outcomes-read f r) ∙ outcomes-count _ 0 (outcomeCountOf f r) in
-      omega (arith, form-shorter f r, number, h .ready .outcomes-few r)
+      omega (arith, form-shorter f r, number, h .ready .indexed .outcomes-few r)
 
 -- the loop over the rows: what is gathered stands one row after the other, and the counts are filled in
 pub record Gathered (f table₀ counts₀ table counts : List ℕ) (total n r : ℕ) : Type 0 where

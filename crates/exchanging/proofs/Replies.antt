@@ -111,7 +111,7 @@ module _ {f index table : List ℕ} (h : Accepted f index) {states rows outcomes
   form-asked filled e room =
       record {
         accepted = h;
-        counted = counted-all (h .ready .rows-high) (filled ∙ ap (fillTo (formCount f) (replicate maxRows 0)) rows-are);
+        counted = counted-all (h .ready .indexed .within .rows-high) (filled ∙ ap (fillTo (formCount f) (replicate maxRows 0)) rows-are);
         outcomes-are = all-outcomes;
         table-long = p .within;
         coded = uncut p codes-fit ∙ all-codes;

@@ -53,11 +53,11 @@ cost-bounded f bytes r =
 
 module _ {f index : List ℕ} {entries r : ℕ} (h : RowReady f index entries r) where
   pub part-from : partFrom index r ≡ outcomeAt f r
-  part-from = part-begins f index (problemOf f .rows) (h .ready .outcomes-at) (h .ready .outcomes-follow) r (h .row-there)
+  part-from = part-begins f index (problemOf f .rows) (h .ready .indexed .outcomes-at) (h .ready .outcomes-follow) r (h .row-there)
 
   pub part-to : partTo index r ≡ partFrom index r + 4 * outcomeCountOf f r
   part-to =
-      rw part-from (part-ends f index (problemOf f .rows) (h .ready .outcomes-at) (h .ready .outcomes-follow) r (h .row-there))
+      rw part-from (part-ends f index (problemOf f .rows) (h .ready .indexed .outcomes-at) (h .ready .outcomes-follow) r (h .row-there))
 
   pub part-inside : partTo index r ≤ length f
   part-inside = omega (arith, part-from, part-to, h .ready .outcomes-follow r, h .ready .outcomes-there r (h .row-there))
@@ -89,18 +89,18 @@ module _ {f index : List ℕ} {entries r : ℕ} (h : RowReady f index entries r)
   sum-there =
       let size = part-size f (partFrom index r) (partTo index r) (outcomeCountOf f r) part-to part-inside in
       record {
-        few = omega (arith, h .ready .outcomes-few r);
+        few = omega (arith, h .ready .indexed .outcomes-few r);
         there = λ i l. part-successor i (omega arith);
       }
 
   pub cost-fits : ((i : ℕ) → getD f i 0 < byteBound) → getD index (rowsBase + 2 * r + 1) 0 ≤ ticksPerSecond * secondsBound
-  cost-fits bytes = omega (arith, h .ready .ticks r (h .row-there), cost-bounded f bytes r)
+  cost-fits bytes = omega (arith, h .ready .indexed .ticks r (h .row-there), cost-bounded f bytes r)
 
   pub row-value-is
       : (v : ℕ → ℕ) → getD index (rowsBase + 2 * r + 1) 0 + weightedSum (outcomesIn (partOf f index r)) v / problemOf f .total
       ≡ rowValue (problemOf f) v r
   unfolding rowValue
-  row-value-is v = rw (part-holds, h .ready .ticks r (h .row-there))
+  row-value-is v = rw (part-holds, h .ready .indexed .ticks r (h .row-there))
 
   pub row-remainder-is
       : (v : ℕ → ℕ) → weightedSum (outcomesIn (partOf f index r)) v % problemOf f .total ≡ rowRemainder (problemOf f) v r
@@ -119,7 +119,7 @@ row-at ready there = record { ready = ready; entries-there = omega arith; row-th
 module _ {f index : List ℕ} (h : Ready f index) (s : ℕ) (l : s < problemOf f .states) where
   pub row-ready : {entries r : ℕ} → problemOf f .states ≤ entries → r < getD index (s + 1) 0 → RowReady f index entries r
   row-ready there own =
-      record { ready = h; entries-there = there; row-there = omega (arith, rows-end f index h s l, h .rows-within s l) }
+      record { ready = h; entries-there = there; row-there = omega (arith, rows-end f index h s l, h .indexed .within .rows-within s l) }
 
   pub last-row-high : getD index (s + 1) 0 ≤ maxRows
-  last-row-high = omega (arith, rows-end f index h s l, h .rows-within s l, h .rows-high)
+  last-row-high = omega (arith, rows-end f index h s l, h .indexed .within .rows-within s l, h .indexed .within .rows-high)

@@ -1,32 +1,36 @@
--- What stands once questions 1 to 10 have said yes: the index holds what it should, and all bytes that a row needs are there.
+-- What stands once questions 1 to 9 have said yes, and once 1 to 10 have: the index holds what it should, and all bytes that a
+-- row needs are there.
 use mathlib.Core.Path.{_≡_}
 use mathlib.Core.Bool.{true}
 use Prim.Native.Nat.{ℕ, suc, _+_, _*_, _/_, _≤_, _<_}
 use mathlib.Core.List.{List}
 use lib.ListN.{length, getD, drop}
 use Rattle.model.specs.Bytes.{u16At}
-use Rattle.model.specs.Limits.{maxStates, maxRows, weightTotals}
-use Rattle.model.specs.Problem.{endRow}
+use Rattle.model.specs.Limits.{maxRows, weightTotals}
 use Rattle.model.specs.Search.{oneOf}
 use Rattle.model.specs.Sections.{problemOf, outcomeAt, outcomeCountOf}
 use Rattle.model.specs.Questions.{passes, layoutQuestions, undercutState, undercutRow}
 use Rattle.model.specs.Value.{rowTicks}
 use Rattle.reading.specs.Tests.{rowsBase, indexSize}
+use Rattle.reading.specs.Fields.{Within}
 use Rattle.reading.specs.Bounds.{maxByte}
 
-pub record Ready (f index : List ℕ) : Type 0 where
+-- questions 1 to 9: the index holds the first row of each state, and of each row where its outcomes begin and its cost in ticks;
+-- every item lies in its section
+pub record Indexed (f index : List ℕ) : Type 0 where
   pub whole : layoutQuestions f ≡ passes
-  pub total-known : oneOf (problemOf f .total) weightTotals ≡ true
+  pub within : Within f
   pub size : length index ≡ indexSize
   pub first-row : (s : ℕ) → s ≤ problemOf f .states → getD index s 0 ≡ problemOf f .firstRow s
   pub outcomes-at : (r : ℕ) → r ≤ problemOf f .rows → getD index (rowsBase + 2 * r) 0 ≡ outcomeAt f r
   pub ticks : (r : ℕ) → r < problemOf f .rows → getD index (rowsBase + 2 * r + 1) 0 ≡ rowTicks (problemOf f) r
-  pub states-high : problemOf f .states ≤ maxStates
-  pub rows-high : problemOf f .rows ≤ maxRows
-  pub rows-follow : (s : ℕ) → problemOf f .firstRow (suc s) ≡ endRow (problemOf f) s
-  pub rows-within : (s : ℕ) → s < problemOf f .states → endRow (problemOf f) s ≤ problemOf f .rows
-  pub outcomes-follow : (r : ℕ) → outcomeAt f (suc r) ≡ outcomeAt f r + 4 * outcomeCountOf f r
   pub outcomes-few : (r : ℕ) → outcomeCountOf f r ≤ maxByte
+
+-- questions 1 to 10
+pub record Ready (f index : List ℕ) : Type 0 where
+  pub indexed : Indexed f index
+  pub total-known : oneOf (problemOf f .total) weightTotals ≡ true
+  pub outcomes-follow : (r : ℕ) → outcomeAt f (suc r) ≡ outcomeAt f r + 4 * outcomeCountOf f r
   pub outcomes-there : (r : ℕ) → r < problemOf f .rows → outcomeAt f (suc r) ≤ length f
   pub successor-there : (r i : ℕ) → r < problemOf f .rows → i < outcomeCountOf f r
       → u16At (drop (outcomeAt f r) f) (4 * i) < problemOf f .states

@@ -47,10 +47,10 @@ module _ (f index : List ℕ) (rows : ℕ) (held : (r : ℕ) → r ≤ rows → 
 -- the rows of a state, as the index has them
 module _ (f index : List ℕ) (h : Ready f index) (s : ℕ) (l : s < problemOf f .states) where
   pub rows-begin : getD index s 0 ≡ problemOf f .firstRow s
-  rows-begin = h .first-row s (omega arith)
+  rows-begin = h .indexed .first-row s (omega arith)
 
   pub rows-end : getD index (s + 1) 0 ≡ endRow (problemOf f) s
-  rows-end = rw add-one (h .first-row (suc s) l ∙ h .rows-follow s)
+  rows-end = rw add-one (h .indexed .first-row (suc s) l ∙ h .indexed .within .rows-follow s)
 
   pub own-at : (r : ℕ) → ownAt index s r ≡ ownRow (problemOf f) s r
   own-at r = rw (rows-begin, rows-end) refl
@@ -65,4 +65,4 @@ abbrev pub secondsAt : List ℕ → ℕ → ℕ
 secondsAt index r = getD index (rowsBase + 2 * r + 1) 0 / ticksPerSecond
 
 pub index-seconds : {f index : List ℕ} → Ready f index → (r : ℕ) → r < problemOf f .rows → secondsAt index r ≡ problemOf f .cost r
-index-seconds ready r l = omega (arith, ready .ticks r l)
+index-seconds ready r l = omega (arith, ready .indexed .ticks r l)

@@ -21,7 +21,7 @@ use Rattle.walking.specs.Costs.{PickCosts, Costed, lowerTo}
 module _ {f index : List ℕ} (w : Walkable f index) where
   -- what `pick_cost` asks
   pub costed-row : {pick : ℕ} → (pick ≡ giveUp) ⊎ (pick < problemOf f .rows) → (pick ≡ giveUp) ⊎ (pick < maxRows)
-  costed-row h = ⊎-elim inl (λ l. inr (omega (arith, w .ready .rows-high))) h
+  costed-row h = ⊎-elim inl (λ l. inr (omega (arith, w .formed .rows-high))) h
 
   pub cost-is : (picks : List ℕ) (s : ℕ) {limit r : ℕ} → (getD picks s 0 ≡ giveUp) ⊎ (getD picks s 0 < problemOf f .rows)
       → limit ≡ giveUpCost (problemOf f) → PickCosts index (getD picks s 0) limit r → r ≡ pickCost (problemOf f) (byState picks) s
@@ -31,7 +31,7 @@ module _ {f index : List ℕ} (w : Walkable f index) where
       go : Dec (getD picks s 0 ≡ giveUp) → (getD picks s 0 ≡ giveUp) ⊎ (getD picks s 0 < problemOf f .rows)
           → r ≡ pickCostOn (eqb (getD picks s 0) giveUp) (problemOf f) (getD picks s 0)
       go (yes g) q = rw (eq-eqb (getD picks s 0) giveUp g) (c .given g ∙ e)
-      go (no n) q = rw (ne-eqb (getD picks s 0) giveUp n) (c .row n ∙ ⊎-elim (λ g. absurd (n g)) (w .ready .ticks (getD picks s 0)) q)
+      go (no n) q = rw (ne-eqb (getD picks s 0) giveUp n) (c .row n ∙ ⊎-elim (λ g. absurd (n g)) (w .ready .indexed .ticks (getD picks s 0)) q)
 
   -- the start, which is marked and no goal
   module _ {picks marks : List ℕ} (c : Costed f picks marks) (m : getD marks (problemOf f .start) 0 ≡ 1) {s : ℕ}

@@ -57,7 +57,7 @@ module _ {f index : List ℕ} (w : Walkable f index) (s : ℕ) (state : s < prob
 
   -- what looking a pick up in the index asks
   pub index-there : (s < maxStates) × (getD index (s + 1) 0 ≤ maxRows)
-  index-there = (omega (arith, w .ready .states-high), omega (arith, end-row, w .ready .rows-within s state, w .ready .rows-high))
+  index-there = (omega (arith, w .formed .states-high), omega (arith, end-row, w .ready .indexed .within .rows-within s state, w .formed .rows-high))
 
   module _ (picks : List ℕ) {from to : ℕ} (at : Picked index s (getD picks s 0) from to) where
     -- the part is whole outcomes of the file, and leads where the model's graph does
@@ -83,9 +83,9 @@ module _ {f index : List ℕ} (w : Walkable f index) (s : ℕ) (state : s < prob
         let ends = at .own (own-at f index (w .ready) s state (getD picks s 0) ∙ o) in
         let rows = problemOf f .rows in
         let start : from ≡ outcomeAt f (getD picks s 0) =
-        ends .0 ∙ part-begins f index rows (w .ready .outcomes-at) (w .ready .outcomes-follow) (getD picks s 0) row in
+        ends .0 ∙ part-begins f index rows (w .ready .indexed .outcomes-at) (w .ready .outcomes-follow) (getD picks s 0) row in
         let finish : to ≡ outcomeAt f (getD picks s 0) + 4 * outcomeCountOf f (getD picks s 0) =
-        ends .1 ∙ part-ends f index rows (w .ready .outcomes-at) (w .ready .outcomes-follow) (getD picks s 0) row in
+        ends .1 ∙ part-ends f index rows (w .ready .indexed .outcomes-at) (w .ready .outcomes-follow) (getD picks s 0) row in
         let count : (to - from) / 4 ≡ outcomeCountOf f (getD picks s 0) = omega (arith, start, finish) in
         record {
           whole = omega (arith, start, finish, count);

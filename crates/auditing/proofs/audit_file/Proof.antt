@@ -28,7 +28,7 @@ enum-told : tie.Need-enum-told
 enum-told c = search needs
 
 layout-of-requires : tie.Need-layout-of-requires
-layout-of-requires c κs = c .before .before .questions .ensures .ready (ap verdictOf (c .enum-told .given .1)) .whole
+layout-of-requires c κs = c .before .before .questions .ensures .ready (ap verdictOf (c .enum-told .given .1)) .indexed .whole
 
 refused-requires : tie.Need-refused-requires
 refused-requires c κs = search needs

@@ -40,7 +40,7 @@ enum-told : tie.Need-enum-told
 enum-told c = search needs
 
 layout-of-requires : tie.Need-layout-of-requires
-layout-of-requires c κs = c .before .before .questions .ensures .ready (told c) .whole
+layout-of-requires c κs = c .before .before .questions .ensures .ready (told c) .indexed .whole
 
 gather-rows-requires : tie.Need-gather-rows-requires
 gather-rows-requires c κs = (
@@ -50,7 +50,7 @@ gather-rows-requires c κs = (
 )
 
 total-of-requires : tie.Need-total-of-requires
-total-of-requires c κs = c .before .before .before .before .before .before .before .questions .ensures .ready (told (c .before .before .before .before .before)) .whole
+total-of-requires c κs = c .before .before .before .before .before .before .before .questions .ensures .ready (told (c .before .before .before .before .before)) .indexed .whole
 
 setting-number-requires : tie.Need-setting-number-requires
 setting-number-requires c κs = search needs

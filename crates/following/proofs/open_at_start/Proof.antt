@@ -31,7 +31,7 @@ enum-told : tie.Need-enum-told
 enum-told c = search needs
 
 start-of-requires : tie.Need-start-of-requires
-start-of-requires c κs = c .before .before .audit-file .ensures .walkable _ (ap auditedOf (c .enum-told .given .1)) .ready .whole
+start-of-requires c κs = c .before .before .audit-file .ensures .walkable _ (ap auditedOf (c .enum-told .given .1)) .ready .indexed .whole
 
 returns-2 : tie.Need-returns-2
 returns-2 c =

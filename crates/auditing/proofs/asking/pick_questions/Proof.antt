@@ -48,10 +48,10 @@ returns : tie.Need-returns
 returns c = c .refused .ensures ∙ pick-stop-18 (c .before .before .before .before .before .before .before .before .before .before .before .pre) (c .before .before .before .before .before .before .walk .ensures .marks) (c .before .before .stray-state .ensures) (c .before .if1 .taken)
 
 give-up-cost-requires : tie.Need-give-up-cost-requires
-give-up-cost-requires c κs = (c .before .before .before .before .before .before .before .before .before .before .pre .walkable .ready .whole, c .before .before .before .before .before .before .before .before .before .before .pre .walkable .formed .penalty-high)
+give-up-cost-requires c κs = (c .before .before .before .before .before .before .before .before .before .before .pre .walkable .ready .indexed .whole, c .before .before .before .before .before .before .before .before .before .before .pre .walkable .formed .penalty-high)
 
 settings-of-requires : tie.Need-settings-of-requires
-settings-of-requires c κs = c .before .before .before .before .before .before .before .before .before .before .before .pre .walkable .ready .whole
+settings-of-requires c κs = c .before .before .before .before .before .before .before .before .before .before .before .pre .walkable .ready .indexed .whole
 
 slack-state-requires : tie.Need-slack-state-requires
 slack-state-requires c κs = (

@@ -11,10 +11,10 @@ use Rattle.auditing.proofs.asking.table_questions.Statement.{statement}
 use Rattle.auditing.proofs.asking.table_questions.Tie as tie
 
 give-up-cost-requires : tie.Need-give-up-cost-requires
-give-up-cost-requires c κs = (c .before .before .before .pre .walkable .ready .whole, c .before .before .before .pre .walkable .formed .penalty-high)
+give-up-cost-requires c κs = (c .before .before .before .pre .walkable .ready .indexed .whole, c .before .before .before .pre .walkable .formed .penalty-high)
 
 unbounded-state-requires : tie.Need-unbounded-state-requires
-unbounded-state-requires c κs = (c .before .before .before .before .pre .walkable .ready .whole, c .give-up-cost .ensures, c .before .before .before .before .pre .states-are, c .before .before .before .before .pre .values-long)
+unbounded-state-requires c κs = (c .before .before .before .before .pre .walkable .ready .indexed .whole, c .give-up-cost .ensures, c .before .before .before .before .pre .states-are, c .before .before .before .before .pre .values-long)
 
 refused-requires : tie.Need-refused-requires
 refused-requires c κs = omega (arith, c .before .before .before .before .before .before .pre .states-are, c .before .before .before .before .before .before .pre .walkable .formed .states-high)

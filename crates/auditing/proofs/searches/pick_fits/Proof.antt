@@ -11,7 +11,7 @@ use Rattle.auditing.proofs.searches.pick_fits.Statement.{statement}
 use Rattle.auditing.proofs.searches.pick_fits.Tie as tie
 
 is-open-requires : tie.Need-is-open-requires
-is-open-requires c κs = (c .before .before .pre .0 .ready .whole, c .before .before .pre .1, omega (arith, c .before .before .pre .1, c .before .before .pre .0 .formed .states-high))
+is-open-requires c κs = (c .before .before .pre .0 .ready .indexed .whole, c .before .before .pre .1, omega (arith, c .before .before .pre .1, c .before .before .pre .0 .formed .states-high))
 
 returns : tie.Need-returns
 returns c = let shut = sym (c .before .is-open .ensures) ∙ not-true _ (c .if1 .taken) in rw shut refl

@@ -11,19 +11,19 @@ mul-first : tie.Need-mul-first
 mul-first c = search needs
 
 element-copy-out-first : tie.Need-element-copy-out-first
-element-copy-out-first c = omega (arith, c .before .before .before .pre .0 .ready .states-high, c .before .before .before .pre .1)
+element-copy-out-first c = omega (arith, c .before .before .before .pre .0 .ready .indexed .within .states-high, c .before .before .before .pre .1)
 
 cast-first : tie.Need-cast-first
 cast-first c = omega (arith, state-rows (c .before .before .before .before .pre .0 .ready) (c .before .before .before .before .pre .1))
 
 add-end : tie.Need-add-end
-add-end c = omega (arith, c .before .before .before .before .pre .0 .ready .states-high, c .before .before .before .before .pre .1)
+add-end c = omega (arith, c .before .before .before .before .pre .0 .ready .indexed .within .states-high, c .before .before .before .before .pre .1)
 
 mul-end : tie.Need-mul-end
 mul-end c = search needs
 
 element-copy-out-end : tie.Need-element-copy-out-end
-element-copy-out-end c = omega (arith, c .before .before .before .before .pre .0 .ready .states-high, c .before .before .before .before .pre .1)
+element-copy-out-end c = omega (arith, c .before .before .before .before .pre .0 .ready .indexed .within .states-high, c .before .before .before .before .pre .1)
 
 cast-end : tie.Need-cast-end
 cast-end c = omega (arith, state-rows (c .before .before .before .before .before .pre .0 .ready) (c .before .before .before .before .before .pre .1))

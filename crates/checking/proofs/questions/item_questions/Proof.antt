@@ -84,7 +84,6 @@ value-questions-requires : tie.Need-value-questions-requires
 value-questions-requires c κs =
     let e = ap verdictOf (c .before .enum-told .given .1) in
     record {
-      whole = c .before .before .before .before .before .before .before .before .before .before .before .before .before .before .before .pre .0 .whole;
       laid = c .before .before .before .before .before .before .before .before .before .before .before .before .before .before .before .pre .0 .laid;
       total-known = total-fits (c .before .before .before .before .before .before .before .before .before .before .before .before .before .before .before .pre .0) (c .before .before .before .before .before .before .before .before .before .before .before .before .before .settings-of .ensures) _ (c .before .before .before .before .before .before .before .before .before .before .before .before .bad-setting .ensures) (c .before .before .before .before .before .before .before .before .before .before .before .if1 .left);
       indexed = c .before .before .before .row-questions .ensures .indexed e;

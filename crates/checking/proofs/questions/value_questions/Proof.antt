@@ -11,7 +11,7 @@ use Rattle.checking.proofs.questions.value_questions.Statement.{stateme
 use Rattle.checking.proofs.questions.value_questions.Tie as tie
 
 total-of-requires : tie.Need-total-of-requires
-total-of-requires c κs = c .before .pre .whole
+total-of-requires c κs = c .before .pre .indexed .whole
 
 bad-outcomes-requires : tie.Need-bad-outcomes-requires
 bad-outcomes-requires c κs =
@@ -30,7 +30,7 @@ slice-aggregate-estimates : tie.Need-slice-aggregate-estimates
 slice-aggregate-estimates c = search needs
 
 estimates-requires : tie.Need-estimates-requires
-estimates-requires c κs = (c .before .before .before .before .before .pre .whole, c .before .before .before .before .before .pre .laid .states-are, omega arith)
+estimates-requires c κs = (c .before .before .before .before .before .pre .indexed .whole, c .before .before .before .before .before .pre .laid .states-are, omega arith)
 
 slice-aggregate-first-undercut : tie.Need-slice-aggregate-first-undercut
 slice-aggregate-first-undercut c = search needs

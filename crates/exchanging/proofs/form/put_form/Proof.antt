@@ -7,14 +7,14 @@ use Rattle.exchanging.proofs.form.put_form.Statement.{statement}
 use Rattle.exchanging.proofs.form.put_form.Tie as tie
 
 layout-of-requires : tie.Need-layout-of-requires
-layout-of-requires c κs = c .before .before .pre .accepted .ready .whole
+layout-of-requires c κs = c .before .before .pre .accepted .ready .indexed .whole
 
 put-settings-requires : tie.Need-put-settings-requires
-put-settings-requires c κs = (c .before .before .before .before .pre .accepted .ready .whole, settings-room (c .before .before .before .before .pre))
+put-settings-requires c κs = (c .before .before .before .before .pre .accepted .ready .indexed .whole, settings-room (c .before .before .before .before .pre))
 
 put-states-requires : tie.Need-put-states-requires
 put-states-requires c κs = (
-  c .before .before .before .before .before .before .before .before .pre .accepted .ready .whole,
+  c .before .before .before .before .before .before .before .before .pre .accepted .ready .indexed .whole,
   c .before .before .before .before .before .layout-of .ensures .states-are,
   c .before .before .before .before .before .layout-of .ensures .states-high,
   states-room (c .before .before .before .before .before .before .before .before .pre) (c .before .before .before .before .before .layout-of .ensures .states-are) (c .before .before .before .before .before .layout-of .ensures .rows-are) (c .before .before .before .put-settings .ensures),

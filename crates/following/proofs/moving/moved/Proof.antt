@@ -14,7 +14,7 @@ shared-slice-read-pick c =
     omega (arith, occurs-inside (c .before .before .before .pre), c .before .before .before .pre .followable .picks-long, c .before .before .before .pre .followable .walkable .formed .states-high)
 
 settings-of-requires : tie.Need-settings-of-requires
-settings-of-requires c κs = c .before .before .before .before .pre .followable .walkable .ready .whole
+settings-of-requires c κs = c .before .before .before .before .pre .followable .walkable .ready .indexed .whole
 
 gave-up-requires : tie.Need-gave-up-requires
 gave-up-requires c κs = occurs-room (c .before .before .before .before .before .pre)

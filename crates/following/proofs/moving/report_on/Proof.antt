@@ -7,10 +7,10 @@ use Rattle.following.proofs.moving.report_on.Statement.{statement}
 use Rattle.following.proofs.moving.report_on.Tie as tie
 
 layout-of-requires : tie.Need-layout-of-requires
-layout-of-requires c κs = c .before .before .pre .walkable .ready .whole
+layout-of-requires c κs = c .before .before .pre .walkable .ready .indexed .whole
 
 is-open-requires : tie.Need-is-open-requires
-is-open-requires c κs = (c .before .before .before .pre .walkable .ready .whole, c .layout-of .ensures .states-are)
+is-open-requires c κs = (c .before .before .before .pre .walkable .ready .indexed .whole, c .layout-of .ensures .states-are)
 
 is-in-shift-requires : tie.Need-is-in-shift-requires
 is-in-shift-requires c κs = search needs

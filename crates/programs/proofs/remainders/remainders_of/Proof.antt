@@ -5,7 +5,7 @@ use Rattle.programs.proofs.remainders.remainders_of.Statement.{statemen
 use Rattle.programs.proofs.remainders.remainders_of.Tie as tie
 
 layout-of-requires : tie.Need-layout-of-requires
-layout-of-requires c κs = c .before .before .before .before .pre .ready (c .if1 .taken) .whole
+layout-of-requires c κs = c .before .before .before .before .pre .ready (c .if1 .taken) .indexed .whole
 
 put-remainders-requires : tie.Need-put-remainders-requires
 put-remainders-requires c κs = (

@@ -71,7 +71,7 @@ weighted-sum-requires : tie.Need-weighted-sum-requires
 weighted-sum-requires c κs = sum-there (c .before .before .before .before .before .before .pre)
 
 total-of-requires : tie.Need-total-of-requires
-total-of-requires c κs = c .before .before .before .before .before .before .before .pre .ready .whole
+total-of-requires c κs = c .before .before .before .before .before .before .before .pre .ready .indexed .whole
 
 average-requires : tie.Need-average-requires
 average-requires c κs = rw (c .total-of .ensures) (c .before .before .before .before .before .before .before .before .pre .ready .total-known)

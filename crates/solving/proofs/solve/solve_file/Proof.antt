@@ -25,7 +25,7 @@ enum-told : tie.Need-enum-told
 enum-told c = search needs
 
 layout-of-requires : tie.Need-layout-of-requires
-layout-of-requires c κs = c .before .before .questions .ensures .ready (ap verdictOf (c .enum-told .given .1)) .whole
+layout-of-requires c κs = c .before .before .questions .ensures .ready (ap verdictOf (c .enum-told .given .1)) .indexed .whole
 
 solve-questions-requires : tie.Need-solve-questions-requires
 solve-questions-requires c κs = search needs

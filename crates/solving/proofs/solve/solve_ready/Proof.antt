@@ -8,14 +8,14 @@ use Rattle.solving.proofs.solve.solve_ready.Statement.{statement}
 use Rattle.solving.proofs.solve.solve_ready.Tie as tie
 
 layout-of-requires : tie.Need-layout-of-requires
-layout-of-requires c κs = c .before .before .before .before .before .pre .ready .whole
+layout-of-requires c κs = c .before .before .before .before .before .pre .ready .indexed .whole
 
 settings-of-requires : tie.Need-settings-of-requires
-settings-of-requires c κs = c .before .before .before .before .before .before .pre .ready .whole
+settings-of-requires c κs = c .before .before .before .before .before .before .pre .ready .indexed .whole
 
 estimates-requires : tie.Need-estimates-requires
 estimates-requires c κs = (
-  c .before .before .before .before .before .before .before .before .pre .ready .whole,
+  c .before .before .before .before .before .before .before .before .pre .ready .indexed .whole,
   c .before .before .layout-of .ensures .states-are,
   omega (arith, c .before .before .layout-of .ensures .states-are, long (c .before .before .before .before .before .before .before .before .pre) .values-long),
 )
@@ -30,7 +30,7 @@ remember-requires c κs = (
 )
 
 give-up-cost-requires : tie.Need-give-up-cost-requires
-give-up-cost-requires c κs = (c .before .before .before .before .before .before .before .before .before .before .before .before .before .before .before .before .before .before .before .before .pre .ready .whole, solvable-formed (c .before .before .before .before .before .before .before .before .before .before .before .before .before .before .before .before .before .before .before .before .pre) .penalty-high)
+give-up-cost-requires c κs = (c .before .before .before .before .before .before .before .before .before .before .before .before .before .before .before .before .before .before .before .before .pre .ready .indexed .whole, solvable-formed (c .before .before .before .before .before .before .before .before .before .before .before .before .before .before .before .before .before .before .before .before .pre) .penalty-high)
 
 unbegun-requires : tie.Need-unbegun-requires
 unbegun-requires c κs = search needs

@@ -17,10 +17,10 @@ abbrev μ-loop : tie.MeasureT-loop
 μ-loop file index picks marks n limit least₀ s₀ least s = n - s
 
 give-up-cost-requires : tie.Need-give-up-cost-requires Inv-loop μ-loop
-give-up-cost-requires c κs = (c .before .before .pre .0 .ready .whole, c .before .before .pre .0 .formed .penalty-high)
+give-up-cost-requires c κs = (c .before .before .pre .0 .ready .indexed .whole, c .before .before .pre .0 .formed .penalty-high)
 
 start-of-requires : tie.Need-start-of-requires Inv-loop μ-loop
-start-of-requires c κs = c .before .before .before .pre .0 .ready .whole
+start-of-requires c κs = c .before .before .before .pre .0 .ready .indexed .whole
 
 mul-pick-cost : tie.Need-mul-pick-cost Inv-loop μ-loop
 mul-pick-cost c = omega (arith, c .start-of .ensures, c .before .before .before .before .pre .0 .formed .start-state, c .before .before .before .before .pre .0 .formed .states-high)

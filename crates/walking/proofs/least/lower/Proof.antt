@@ -26,19 +26,19 @@ costs : (c : tie.After-pick-cost)
 costs c = cost-is (c .before .before .before .before .before .before .before .before .pre .0) (c .before .before .before .before .before .before .before .before .args .picks .now) (c .before .before .before .before .before .before .before .before .args .s) (said (c .before .before)) (c .before .before .before .before .before .before .before .before .pre .2) (c .pick-cost .ensures)
 
 is-goal-requires : tie.Need-is-goal-requires
-is-goal-requires c κs = (c .before .before .pre .0 .ready .whole, c .before .before .pre .3)
+is-goal-requires c κs = (c .before .before .pre .0 .ready .indexed .whole, c .before .before .pre .3)
 
 returns : tie.Need-returns
 returns c = let goal = sym (c .before .is-goal .ensures) ∙ (c .if1 .taken) in rw goal refl
 
 element-copy-out-if2 : tie.Need-element-copy-out-if2
-element-copy-out-if2 c = omega (arith, c .before .before .before .before .pre .3, c .before .before .before .before .pre .0 .ready .states-high)
+element-copy-out-if2 c = omega (arith, c .before .before .before .before .pre .3, c .before .before .before .before .pre .0 .formed .states-high)
 
 returns-2 : tie.Need-returns-2
 returns-2 c = let goal = sym (c .before .before .before .is-goal .ensures) ∙ (c .before .before .if1 .left) in rw (goal, c .if2 .taken) refl
 
 mul-pick-cost : tie.Need-mul-pick-cost
-mul-pick-cost c = omega (arith, c .before .before .before .before .before .before .pre .3, c .before .before .before .before .before .before .pre .0 .ready .states-high)
+mul-pick-cost c = omega (arith, c .before .before .before .before .before .before .pre .3, c .before .before .before .before .before .before .pre .0 .formed .states-high)
 
 shared-slice-read-pick-cost : tie.Need-shared-slice-read-pick-cost
 shared-slice-read-pick-cost c = omega (arith, c .before .before .before .before .before .before .before .pre .3, c .before .before .before .before .before .before .before .pre .1 .long)

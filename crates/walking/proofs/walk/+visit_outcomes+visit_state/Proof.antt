@@ -82,7 +82,7 @@ visit-outcomes-element-copy-out-if1 t c =
       arith,
       c .u16-at .ensures .0,
       outcome-state (c .before .before .loop .inv .ahead) (c .before .loop-test .taken),
-      c .before .before .loop .inv .under .walkable .ready .states-high,
+      c .before .before .loop .inv .under .walkable .formed .states-high,
     )
 
 visit-outcomes-visit-state-requires : (t : nat.ℕ) → visit-outcomes-lts.Need-visit-state-requires (u16-at-reads.Asked, u16-at-reads.Learnt, visit-state-below t, visit-state-reads.Post) (visit-outcomes-at t) visit-outcomes-reads.Post visit-outcomes-Inv-loop visit-outcomes-μ-loop
@@ -113,10 +113,10 @@ visit-outcomes-returns : (t : nat.ℕ) → visit-outcomes-lts.Need-returns (u16-
 visit-outcomes-returns t c = loop-end (c .before .loop .inv) (c .loop-test .left)
 
 visit-state-element-write-marks : (t : nat.ℕ) → visit-state-lts.Need-element-write-marks (picked-reads.Asked, picked-reads.Learnt, visit-outcomes-below t, visit-outcomes-reads.Post, no-goal-reads.Asked, no-goal-reads.Learnt) (visit-state-at t) visit-state-reads.Post
-visit-state-element-write-marks t c = omega (arith, c .before .before .before .pre .1 .1, c .before .before .before .pre .1 .0 .walkable .ready .states-high)
+visit-state-element-write-marks t c = omega (arith, c .before .before .before .pre .1 .1, c .before .before .before .pre .1 .0 .walkable .formed .states-high)
 
 visit-state-mul-picked : (t : nat.ℕ) → visit-state-lts.Need-mul-picked (picked-reads.Asked, picked-reads.Learnt, visit-outcomes-below t, visit-outcomes-reads.Post, no-goal-reads.Asked, no-goal-reads.Learnt) (visit-state-at t) visit-state-reads.Post
-visit-state-mul-picked t c = omega (arith, c .before .before .before .pre .1 .1, c .before .before .before .pre .1 .0 .walkable .ready .states-high)
+visit-state-mul-picked t c = omega (arith, c .before .before .before .pre .1 .1, c .before .before .before .pre .1 .0 .walkable .formed .states-high)
 
 visit-state-shared-slice-read-picked : (t : nat.ℕ) → visit-state-lts.Need-shared-slice-read-picked (picked-reads.Asked, picked-reads.Learnt, visit-outcomes-below t, visit-outcomes-reads.Post, no-goal-reads.Asked, no-goal-reads.Learnt) (visit-state-at t) visit-state-reads.Post
 visit-state-shared-slice-read-picked t c = omega (arith, c .before .before .before .before .pre .1 .1, c .before .before .before .before .pre .1 .0 .picks-long)
@@ -138,17 +138,17 @@ visit-state-visit-outcomes-requires t c κs = (
 
 visit-state-no-goal-requires : (t : nat.ℕ) → visit-state-lts.Need-no-goal-requires (picked-reads.Asked, picked-reads.Learnt, visit-outcomes-below t, visit-outcomes-reads.Post, no-goal-reads.Asked, no-goal-reads.Learnt) (visit-state-at t) visit-state-reads.Post
 visit-state-no-goal-requires t c κs = (
-  c .before .before .before .before .before .before .before .before .before .before .pre .1 .0 .walkable .ready .whole,
+  c .before .before .before .before .before .before .before .before .before .before .pre .1 .0 .walkable .ready .indexed .whole,
   c .before .before .before .before .before .before .before .before .before .before .pre .1 .1,
   picked-open (c .before .before .before .before .before .before .before .before .before .before .pre .1 .0 .walkable) _ (c .before .before .before .before .before .before .before .before .before .before .pre .1 .1) (c .before .before .before .before .before .before .before .before .before .before .args .picks .now) (c .before .before .before .before .before .picked .ensures),
 )
 
 visit-state-cast-list : (t : nat.ℕ) → visit-state-lts.Need-cast-list (picked-reads.Asked, picked-reads.Learnt, visit-outcomes-below t, visit-outcomes-reads.Post, no-goal-reads.Asked, no-goal-reads.Learnt) (visit-state-at t) visit-state-reads.Post
-visit-state-cast-list t c = omega (arith, c .before .before .before .before .before .before .before .before .before .before .before .before .pre .1 .1, room t (c .before .before .before .before), c .before .before .before .before .before .before .before .before .before .before .before .before .pre .1 .0 .walkable .ready .states-high)
+visit-state-cast-list t c = omega (arith, c .before .before .before .before .before .before .before .before .before .before .before .before .pre .1 .1, room t (c .before .before .before .before), c .before .before .before .before .before .before .before .before .before .before .before .before .pre .1 .0 .walkable .formed .states-high)
 
 visit-state-mul-list : (t : nat.ℕ) → visit-state-lts.Need-mul-list (picked-reads.Asked, picked-reads.Learnt, visit-outcomes-below t, visit-outcomes-reads.Post, no-goal-reads.Asked, no-goal-reads.Learnt) (visit-state-at t) visit-state-reads.Post
 visit-state-mul-list t c =
-    omega (arith, room t (c .before .before .before .before), c .before .before .before .before .visit-outcomes .ensures .grows, c .before .before .before .before .before .before .before .before .before .before .before .before .pre .1 .0 .walkable .ready .states-high)
+    omega (arith, room t (c .before .before .before .before), c .before .before .before .before .visit-outcomes .ensures .grows, c .before .before .before .before .before .before .before .before .before .before .before .before .pre .1 .0 .walkable .formed .states-high)
 
 visit-state-slice-write-list : (t : nat.ℕ) → visit-state-lts.Need-slice-write-list (picked-reads.Asked, picked-reads.Learnt, visit-outcomes-below t, visit-outcomes-reads.Post, no-goal-reads.Asked, no-goal-reads.Learnt) (visit-state-at t) visit-state-reads.Post
 visit-state-slice-write-list t c =
@@ -162,7 +162,7 @@ visit-state-slice-write-list t c =
 
 visit-state-add-result : (t : nat.ℕ) → visit-state-lts.Need-add-result (picked-reads.Asked, picked-reads.Learnt, visit-outcomes-below t, visit-outcomes-reads.Post, no-goal-reads.Asked, no-goal-reads.Learnt) (visit-state-at t) visit-state-reads.Post
 visit-state-add-result t c =
-    omega (arith, room t (c .before .before .before .before), c .before .before .before .before .visit-outcomes .ensures .grows, c .before .before .before .before .before .before .before .before .before .before .before .before .pre .1 .0 .walkable .ready .states-high)
+    omega (arith, room t (c .before .before .before .before), c .before .before .before .before .visit-outcomes .ensures .grows, c .before .before .before .before .before .before .before .before .before .before .before .before .pre .1 .0 .walkable .formed .states-high)
 
 visit-state-same-length : (t : nat.ℕ) → visit-state-lts.Need-same-length (picked-reads.Asked, picked-reads.Learnt, visit-outcomes-below t, visit-outcomes-reads.Post, no-goal-reads.Asked, no-goal-reads.Learnt) (visit-state-at t) visit-state-reads.Post
 visit-state-same-length t c = search needs

@@ -9,7 +9,7 @@ use Rattle.walking.proofs.walk.walk.Statement.{statement}
 use Rattle.walking.proofs.walk.walk.Tie as tie
 
 start-of-requires : tie.Need-start-of-requires
-start-of-requires c κs = c .before .before .before .before .before .pre .0 .ready .whole
+start-of-requires c κs = c .before .before .before .before .before .pre .0 .ready .indexed .whole
 
 visit-state-requires : tie.Need-visit-state-requires
 visit-state-requires c κs = (
