@@ -2,7 +2,6 @@
 -- and the loop over the others, in which what is left of the scan gives the same as the whole.
 use mathlib.Core.Path.{_≡_, refl, sym, _∙_, ap, subst}
 use Prim.Native.Nat.{ℕ, suc, _+_, _-_, _≤_, _<_}
-use native.Mathlib.Numerals.{add-one}
 use native.Mathlib.Omega.{arith}
 use mathlib.Core.Bool.{Bool, true, false, _&&_, not}
 use lib.Dec.{leb, ltb, eqb}
@@ -17,6 +16,7 @@ use Rattle.model.specs.Rounds.{Found, beats, evaluate, skipped, considerOn, con
 use Rattle.model.specs.Traversal.{takenIf, othersFrom, traverse}
 use Rattle.guarantee.specs.Evaluations.{others-count, scan-count}
 use Rattle.reading.specs.Ready.{Ready}
+use Rattle.reading.specs.RowParts.{rows-begin, rows-end}
 use Rattle.guarantee.specs.Choosing.{threshold-row, beats-below}
 use Rattle.backing.specs.Backable.{countBound, Going, Scannable, takenUnder, othersUnder}
 
@@ -79,8 +79,8 @@ pub state-rows
     : {f index : List ℕ} {s : ℕ} → Ready f index → s < problemOf f .states
     → StateRows (problemOf f) s (getD index s 0) (getD index (s + 1) 0)
 state-rows {f} {index} {s} h l =
-    let low : getD index s 0 ≡ problemOf f .firstRow s = h .indexed .first-row s (omega arith) in
-    let high : getD index (s + 1) 0 ≡ endRow (problemOf f) s = h .indexed .first-row (s + 1) (omega arith) ∙ rw add-one (h .indexed .within .rows-follow s) in
+    let low : getD index s 0 ≡ problemOf f .firstRow s = rows-begin f index h s l in
+    let high : getD index (s + 1) 0 ≡ endRow (problemOf f) s = rows-end f index h s l in
     record {
       low = low;
       high = high;

@@ -1,6 +1,6 @@
 -- Laws of the index: what its entries are once states and rows are filled in, and what they give before question 10 and after
 -- it. The entries are read off the two fillings; the rest is the layout of the sections.
-use mathlib.Core.Path.{_≡_, refl, _∙_, sym}
+use mathlib.Core.Path.{_≡_, refl, _∙_}
 use Prim.Native.Nat.{ℕ, zero, suc, _+_, _*_, _≤_, _<_}
 use native.Mathlib.Decide.{ℕ-discrete}
 use native.Mathlib.Nat.{eq-or-lt-of-le}
@@ -13,13 +13,13 @@ use lib.Seq.{getD-set-same, getD-set-other}
 use Rattle.model.specs.Limits.{weightTotals}
 use Rattle.model.specs.Questions.{passes, layoutQuestions, rowNumberQuestion, outcomeNumberQuestion}
 use Rattle.model.specs.Questions.{outcomesObey, rowSound, outcomeQuestion}
-use Rattle.model.specs.Search.{first, sumTo, oneOf}
+use Rattle.model.specs.Search.{first, oneOf}
 use Rattle.model.specs.Sections.{problemOf, rowsAt, outcomeAt, outcomeCountOf}
 use Rattle.model.specs.Value.{rowTicks}
 use Rattle.guarantee.specs.Parts.{obey-successor}
 use Rattle.guarantee.specs.Searches.{and-left, ask-each-yes, first-same}
 use Rattle.guarantee.specs.Tables.{fill-length, fill-entry, pair-first, pair-second, pair-other}
-use Rattle.reading.specs.RowParts.{part-reads, part-begins, part-ends, outcomes-read}
+use Rattle.reading.specs.RowParts.{part-spans, part-ordered, part-inside, part-holds, outcomes-read}
 use Rattle.checking.specs.IndexLeft.{statesFilled, rowsFilled}
 use Rattle.reading.specs.Fields.{within}
 use Rattle.reading.specs.Ready.{Indexed, Ready}
@@ -136,34 +136,20 @@ module _ (f before : List ℕ) (whole : layoutQuestions f ≡ passes) (bytes : (
 -- what the index gives of a row
 
 module _ {f index : List ℕ} (h : Indexed f index) where
-  starts-follow : (r : ℕ) → outcomeAt f (suc r) ≡ outcomeAt f r + 4 * outcomeCountOf f r
-  unfolding sumTo
-  starts-follow r = omega arith
-
   -- what question 10 asks of the index
   pub parts-there : (r : ℕ) → r < problemOf f .rows → PartThere f index r
   parts-there r l =
-      let from = part-begins f index (problemOf f .rows) (h .outcomes-at) starts-follow r l in
-      let to = part-ends f index (problemOf f .rows) (h .outcomes-at) starts-follow r l in
       record {
-        ordered = omega arith;
-        inside = omega (arith, h .within .outcomes-within r l);
-        few = omega (arith, h .outcomes-few r);
+        ordered = part-ordered h r l;
+        inside = part-inside h r l;
+        few = omega (arith, part-spans h r l, h .outcomes-few r);
       }
-
-  outcomes-of-part : (r : ℕ) → r < problemOf f .rows → outcomesIn (partOf f index r) ≡ problemOf f .outcomes r
-  outcomes-of-part r l =
-      let from = part-begins f index (problemOf f .rows) (h .outcomes-at) starts-follow r l in
-      let to = part-ends f index (problemOf f .rows) (h .outcomes-at) starts-follow r l in
-      let end = outcomeAt f r + 4 * outcomeCountOf f r in
-      let reads = part-reads f (outcomeAt f r) end (outcomeCountOf f r) refl (h .within .outcomes-within r l) in
-      rw (to, from) reads ∙ sym (outcomes-read f r)
 
   -- question 10 of the parts is question 10 of the problem
   pub same-search
       : first (λ k. rowSound (problemOf f .states) (problemOf f .total) (outcomesIn (partOf f index k))) 0 (problemOf f .rows)
       ≡ first (λ k. rowSound (problemOf f .states) (problemOf f .total) (problemOf f .outcomes k)) 0 (problemOf f .rows)
-  same-search = first-same _ _ 0 (problemOf f .rows) (λ j low high. rw (outcomes-of-part j (omega arith)))
+  same-search = first-same _ _ 0 (problemOf f .rows) (λ j low high. rw (part-holds h j (omega arith)))
 
   pub index-ready : oneOf (problemOf f .total) weightTotals ≡ true → outcomeQuestion (problemOf f) ≡ passes → Ready f index
   unfolding outcomeQuestion
@@ -171,8 +157,6 @@ module _ {f index : List ℕ} (h : Indexed f index) where
       record {
         indexed = h;
         total-known = known;
-        outcomes-follow = starts-follow;
-        outcomes-there = λ r l. omega (arith, h .within .outcomes-within r l, starts-follow r);
         successor-there = λ r i l k.
             let p = problemOf f in
             let test = ask-each-yes 10 (p .rows) _ passed r l in

@@ -1,6 +1,5 @@
 -- The value of a row from the part of the file that the index gives to it, and its bounds.
--- The problem is opened where the two readings of the outcomes meet.
-use mathlib.Core.Path.{_≡_, refl, _∙_, ap}
+use mathlib.Core.Path.{_≡_, refl, ap}
 use Prim.Native.Nat.{ℕ, _+_, _-_, _*_, _/_, _%_, _≤_, _<_}
 use native.Mathlib.Nat.{div-le-self, div-mul-le-self, div-add-mod', mul-le-mul}
 use native.Mathlib.Omega.{arith}
@@ -11,13 +10,13 @@ use lib.Dec.{eqb, ltb}
 use lib.ListN.{length, getD, drop}
 use Rattle.model.specs.Bytes.{u16At}
 use Rattle.model.specs.Limits.{maxRows, maxSeconds, fileStick, millimetreSeconds, ticksPerSecond, valueBound}
-use Rattle.model.specs.Sections.{problemOf, lengthSeconds, rateSeconds, secondsOn, rowAt, kindOf, costNumberOf, outcomeAt}
+use Rattle.model.specs.Sections.{problemOf, lengthSeconds, rateSeconds, secondsOn, rowAt, kindOf, costNumberOf}
 use Rattle.model.specs.Sections.{outcomeCountOf}
 use Rattle.model.specs.Value.{weightedSum, rowValue, rowRemainder}
 use Rattle.guarantee.specs.Parts.{outcomes-count}
 use Rattle.guarantee.specs.ReadsBack.{u16-front}
-use Rattle.reading.specs.Ready.{Ready, RowReady, SumThere}
-use Rattle.reading.specs.RowParts.{part-size, part-reads, part-begins, part-ends, partFrom, partTo, rows-end}
+use Rattle.reading.specs.Ready.{Indexed, Ready, RowReady, SumThere}
+use Rattle.reading.specs.RowParts.{part-size, part-begins, part-spans, part-inside, part-holds, partFrom, partTo, rows-end}
 use Rattle.reading.specs.Tests.{rowsBase, partOf, partBytes, outcomesIn}
 use Rattle.reading.specs.Bounds.{byteBound, shortBound}
 
@@ -51,43 +50,32 @@ cost-bounded f bytes r =
     let i = rowAt f r + 2 in
     seconds-high (eqb (kindOf f r) 0) (costNumberOf f r) (omega (arith, bytes i, bytes (i + 1)))
 
-module _ {f index : List ℕ} {entries r : ℕ} (h : RowReady f index entries r) where
-  pub part-from : partFrom index r ≡ outcomeAt f r
-  part-from = part-begins f index (problemOf f .rows) (h .ready .indexed .outcomes-at) (h .ready .outcomes-follow) r (h .row-there)
-
-  pub part-to : partTo index r ≡ partFrom index r + 4 * outcomeCountOf f r
-  part-to =
-      rw part-from (part-ends f index (problemOf f .rows) (h .ready .indexed .outcomes-at) (h .ready .outcomes-follow) r (h .row-there))
-
-  pub part-inside : partTo index r ≤ length f
-  part-inside = omega (arith, part-from, part-to, h .ready .outcomes-follow r, h .ready .outcomes-there r (h .row-there))
-
-  pub part-ordered : partFrom index r ≤ partTo index r
-  part-ordered = omega (arith, part-to)
-
-  pub part-holds : outcomesIn (partOf f index r) ≡ problemOf f .outcomes r
-  unfolding problemOf
-  part-holds = part-reads f (partFrom index r) (partTo index r) (outcomeCountOf f r) part-to part-inside ∙ rw part-from
+-- the part of row r
+module _ {f index : List ℕ} (h : Indexed f index) (r : ℕ) (l : r < problemOf f .rows) where
+  part-bytes : length (partOf f index r) ≡ 4 * outcomeCountOf f r
+  part-bytes = part-size f (partFrom index r) (partTo index r) (outcomeCountOf f r) (part-spans h r l) (part-inside h r l)
 
   pub part-is : partOf f index r ≡ partBytes f r
   part-is =
-      let size : partTo index r - partFrom index r ≡ 4 * outcomeCountOf f r = omega (arith, part-to) in
-      rw (size, part-from) refl
+      let size : partTo index r - partFrom index r ≡ 4 * outcomeCountOf f r = omega (arith, part-spans h r l) in
+      rw (size, part-begins h r l) refl
 
   pub part-long : length (partOf f index r) ≡ 4 * length (problemOf f .outcomes r)
   part-long =
-      let size = part-size f (partFrom index r) (partTo index r) (outcomeCountOf f r) part-to part-inside in
-      let count = ap length part-holds in
-      omega (arith, outcomes-count (partOf f index r) 0 (length (partOf f index r) / 4))
+      let count = ap length (part-holds h r l) in
+      omega (arith, part-bytes, outcomes-count (partOf f index r) 0 (length (partOf f index r) / 4))
 
+module _ {f index : List ℕ} {entries r : ℕ} (h : RowReady f index entries r) where
   part-successor : (i : ℕ) → i < outcomeCountOf f r → u16At (partOf f index r) (4 * i) < entries
   part-successor i l =
-      rw (u16-front (partTo index r - partFrom index r) (drop (partFrom index r) f) (4 * i) (omega (arith, part-to)), part-from)
+      let size : 4 * i + 2 ≤ partTo index r - partFrom index r = omega (arith, part-spans (h .ready .indexed) r (h .row-there)) in
+      let begins = part-begins (h .ready .indexed) r (h .row-there) in
+      rw (u16-front (partTo index r - partFrom index r) (drop (partFrom index r) f) (4 * i) size, begins)
       (omega (arith, h .ready .successor-there r i (h .row-there) l))
 
   pub sum-there : SumThere (partOf f index r) entries
   sum-there =
-      let size = part-size f (partFrom index r) (partTo index r) (outcomeCountOf f r) part-to part-inside in
+      let size = part-bytes (h .ready .indexed) r (h .row-there) in
       record {
         few = omega (arith, h .ready .indexed .outcomes-few r);
         there = λ i l. part-successor i (omega arith);
@@ -100,20 +88,16 @@ module _ {f index : List ℕ} {entries r : ℕ} (h : RowReady f index entries r)
       : (v : ℕ → ℕ) → getD index (rowsBase + 2 * r + 1) 0 + weightedSum (outcomesIn (partOf f index r)) v / problemOf f .total
       ≡ rowValue (problemOf f) v r
   unfolding rowValue
-  row-value-is v = rw (part-holds, h .ready .indexed .ticks r (h .row-there))
+  row-value-is v = rw (part-holds (h .ready .indexed) r (h .row-there), h .ready .indexed .ticks r (h .row-there))
 
   pub row-remainder-is
       : (v : ℕ → ℕ) → weightedSum (outcomesIn (partOf f index r)) v % problemOf f .total ≡ rowRemainder (problemOf f) v r
   unfolding rowRemainder
-  row-remainder-is v = rw part-holds
+  row-remainder-is v = rw (part-holds (h .ready .indexed) r (h .row-there))
 
   -- a row's value is at least its cost
   pub cost-passes : (v : ℕ → ℕ) (x : ℕ) → x ≤ getD index (rowsBase + 2 * r + 1) 0 → ltb (rowValue (problemOf f) v r) x ≡ false
   cost-passes v x l = le-ltb (rowValue (problemOf f) v r) x (omega (arith, row-value-is v))
-
--- the outcomes of a row alone
-pub row-at : {f index : List ℕ} {r : ℕ} → Ready f index → r < problemOf f .rows → RowReady f index (problemOf f .states) r
-row-at ready there = record { ready = ready; entries-there = omega arith; row-there = there }
 
 -- the rows of a state, as the index has them
 module _ {f index : List ℕ} (h : Ready f index) (s : ℕ) (l : s < problemOf f .states) where

@@ -2,7 +2,7 @@
 -- row needs are there.
 use mathlib.Core.Path.{_≡_}
 use mathlib.Core.Bool.{true}
-use Prim.Native.Nat.{ℕ, suc, _+_, _*_, _/_, _≤_, _<_}
+use Prim.Native.Nat.{ℕ, _+_, _*_, _/_, _≤_, _<_}
 use mathlib.Core.List.{List}
 use lib.ListN.{length, getD, drop}
 use Rattle.model.specs.Bytes.{u16At}
@@ -30,8 +30,6 @@ pub record Indexed (f index : List ℕ) : Type 0 where
 pub record Ready (f index : List ℕ) : Type 0 where
   pub indexed : Indexed f index
   pub total-known : oneOf (problemOf f .total) weightTotals ≡ true
-  pub outcomes-follow : (r : ℕ) → outcomeAt f (suc r) ≡ outcomeAt f r + 4 * outcomeCountOf f r
-  pub outcomes-there : (r : ℕ) → r < problemOf f .rows → outcomeAt f (suc r) ≤ length f
   pub successor-there : (r i : ℕ) → r < problemOf f .rows → i < outcomeCountOf f r
       → u16At (drop (outcomeAt f r) f) (4 * i) < problemOf f .states
 

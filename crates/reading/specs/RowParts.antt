@@ -9,10 +9,11 @@ use lib.ListN.{length, getD, take, drop, length-drop}
 use lib.Seq.{length-take-le}
 use Rattle.model.specs.Limits.{ticksPerSecond}
 use Rattle.model.specs.Problem.{endRow, ownRow}
+use Rattle.model.specs.Search.{sumTo}
 use Rattle.model.specs.Sections.{problemOf, outcomeAt, outcomeCountOf, outcomesFrom}
 use Rattle.guarantee.specs.Parts.{outcomes-front}
-use Rattle.reading.specs.Ready.{Ready}
-use Rattle.reading.specs.Tests.{rowsBase, outcomesIn, ownAt}
+use Rattle.reading.specs.Ready.{Indexed, Ready}
+use Rattle.reading.specs.Tests.{rowsBase, partOf, outcomesIn, ownAt}
 
 -- the length of a part of k outcomes, how many it has, and what they are
 module _ (f : List ℕ) (a e k : ℕ) (h : e ≡ a + 4 * k) (l : e ≤ length f) where
@@ -34,15 +35,35 @@ partFrom index r = getD index (rowsBase + 2 * r) 0
 abbrev pub partTo : List ℕ → ℕ → ℕ
 partTo index r = getD index (rowsBase + 2 * r + 2) 0
 
-module _ (f index : List ℕ) (rows : ℕ) (held : (r : ℕ) → r ≤ rows → getD index (rowsBase + 2 * r) 0 ≡ outcomeAt f r)
-    (follow : (r : ℕ) → outcomeAt f (suc r) ≡ outcomeAt f r + 4 * outcomeCountOf f r) (r : ℕ) (l : r < rows) where
+-- the outcomes of a row are read from where they begin
+pub outcomes-read : (f : List ℕ) (r : ℕ) → problemOf f .outcomes r ≡ outcomesFrom (drop (outcomeAt f r) f) 0 (outcomeCountOf f r)
+unfolding problemOf
+outcomes-read f r = refl
+
+module _ {f index : List ℕ} (h : Indexed f index) (r : ℕ) (l : r < problemOf f .rows) where
   pub part-begins : partFrom index r ≡ outcomeAt f r
-  part-begins = held r (omega arith)
+  part-begins = h .outcomes-at r (omega arith)
 
   pub part-ends : partTo index r ≡ outcomeAt f r + 4 * outcomeCountOf f r
+  unfolding sumTo
   part-ends =
       let z : rowsBase + 2 * r + 2 ≡ rowsBase + 2 * suc r = omega arith in
-      rw z (held (suc r) l ∙ follow r)
+      let follow : outcomeAt f (suc r) ≡ outcomeAt f r + 4 * outcomeCountOf f r = omega arith in
+      rw z (h .outcomes-at (suc r) l ∙ follow)
+
+  pub part-spans : partTo index r ≡ partFrom index r + 4 * outcomeCountOf f r
+  part-spans = rw part-begins part-ends
+
+  pub part-ordered : partFrom index r ≤ partTo index r
+  part-ordered = omega (arith, part-spans)
+
+  pub part-inside : partTo index r ≤ length f
+  part-inside = omega (arith, part-ends, h .within .outcomes-within r l)
+
+  pub part-holds : outcomesIn (partOf f index r) ≡ problemOf f .outcomes r
+  part-holds =
+      part-reads f (partFrom index r) (partTo index r) (outcomeCountOf f r) part-spans part-inside
+      ∙ rw (part-begins, outcomes-read f r) refl
 
 -- the rows of a state, as the index has them
 module _ (f index : List ℕ) (h : Ready f index) (s : ℕ) (l : s < problemOf f .states) where
@@ -54,11 +75,6 @@ module _ (f index : List ℕ) (h : Ready f index) (s : ℕ) (l : s < problemOf f
 
   pub own-at : (r : ℕ) → ownAt index s r ≡ ownRow (problemOf f) s r
   own-at r = rw (rows-begin, rows-end) refl
-
--- the outcomes of a row are read from where they begin
-pub outcomes-read : (f : List ℕ) (r : ℕ) → problemOf f .outcomes r ≡ outcomesFrom (drop (outcomeAt f r) f) 0 (outcomeCountOf f r)
-unfolding problemOf
-outcomes-read f r = refl
 
 -- the seconds of a row, as the index has its cost in ticks
 abbrev pub secondsAt : List ℕ → ℕ → ℕ

@@ -81,15 +81,14 @@ module _ {f index : List ℕ} (w : Walkable f index) (s : ℕ) (state : s < prob
     own e o =
         let row : getD picks s 0 < problemOf f .rows = own-row (problemOf f) (w .formed) s (getD picks s 0) state o in
         let ends = at .own (own-at f index (w .ready) s state (getD picks s 0) ∙ o) in
-        let rows = problemOf f .rows in
         let start : from ≡ outcomeAt f (getD picks s 0) =
-        ends .0 ∙ part-begins f index rows (w .ready .indexed .outcomes-at) (w .ready .outcomes-follow) (getD picks s 0) row in
+        ends .0 ∙ part-begins (w .ready .indexed) (getD picks s 0) row in
         let finish : to ≡ outcomeAt f (getD picks s 0) + 4 * outcomeCountOf f (getD picks s 0) =
-        ends .1 ∙ part-ends f index rows (w .ready .indexed .outcomes-at) (w .ready .outcomes-follow) (getD picks s 0) row in
+        ends .1 ∙ part-ends (w .ready .indexed) (getD picks s 0) row in
         let count : (to - from) / 4 ≡ outcomeCountOf f (getD picks s 0) = omega (arith, start, finish) in
         record {
           whole = omega (arith, start, finish, count);
-          inside = omega (arith, finish, w .ready .outcomes-follow (getD picks s 0), w .ready .outcomes-there (getD picks s 0) row);
+          inside = omega (arith, finish, w .ready .indexed .within .outcomes-within (getD picks s 0) row);
           leads-next = rw (count, start, e, o) (sym (row-leads f (getD picks s 0)));
         }
 

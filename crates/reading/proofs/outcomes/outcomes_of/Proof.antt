@@ -1,6 +1,7 @@
 -- `outcomes_of` answers the part of the file that the index gives to the row.
 -- Made by `places make` from answers/outcomes/outcomes_of.ans: edit that file, and not this one.
-use Rattle.reading.proofs.RowValues.{row-at, part-ordered, part-inside, part-holds, part-is, part-long}
+use Rattle.reading.specs.RowParts.{part-ordered, part-inside, part-holds}
+use Rattle.reading.proofs.RowValues.{part-is, part-long}
 use borrow.Author.Needs.{needs}
 use native.Mathlib.Omega.{arith}
 use Rattle.reading.proofs.outcomes.outcomes_of.Statement.{statement}
@@ -20,7 +21,7 @@ element-copy-out-from c = search needs
 
 cast-from : tie.Need-cast-from
 cast-from c =
-    omega (arith, part-ordered (row-at (c .before .pre .0) (c .before .pre .1)), part-inside (row-at (c .before .pre .0) (c .before .pre .1)))
+    omega (arith, part-ordered (c .before .pre .0 .indexed) _ (c .before .pre .1), part-inside (c .before .pre .0 .indexed) _ (c .before .pre .1))
 
 mul-to : tie.Need-mul-to
 mul-to c = search needs
@@ -39,22 +40,22 @@ element-copy-out-to c = search needs
 
 cast-to : tie.Need-cast-to
 cast-to c =
-    omega (arith, part-ordered (row-at (c .before .before .pre .0) (c .before .before .pre .1)), part-inside (row-at (c .before .before .pre .0) (c .before .before .pre .1)))
+    omega (arith, part-ordered (c .before .before .pre .0 .indexed) _ (c .before .before .pre .1), part-inside (c .before .before .pre .0 .indexed) _ (c .before .before .pre .1))
 
 sub-result : tie.Need-sub-result
 sub-result c =
-    omega (arith, part-ordered (row-at (c .before .before .pre .0) (c .before .before .pre .1)), part-inside (row-at (c .before .before .pre .0) (c .before .before .pre .1)))
+    omega (arith, part-ordered (c .before .before .pre .0 .indexed) _ (c .before .before .pre .1), part-inside (c .before .before .pre .0 .indexed) _ (c .before .before .pre .1))
 
 part-result-start : tie.Need-part-result-start
 part-result-start c =
-    omega (arith, part-ordered (row-at (c .before .before .pre .0) (c .before .before .pre .1)), part-inside (row-at (c .before .before .pre .0) (c .before .before .pre .1)))
+    omega (arith, part-ordered (c .before .before .pre .0 .indexed) _ (c .before .before .pre .1), part-inside (c .before .before .pre .0 .indexed) _ (c .before .before .pre .1))
 
 part-result-end : tie.Need-part-result-end
 part-result-end c =
-    omega (arith, part-ordered (row-at (c .before .before .pre .0) (c .before .before .pre .1)), part-inside (row-at (c .before .before .pre .0) (c .before .before .pre .1)))
+    omega (arith, part-ordered (c .before .before .pre .0 .indexed) _ (c .before .before .pre .1), part-inside (c .before .before .pre .0 .indexed) _ (c .before .before .pre .1))
 
 returns : tie.Need-returns
-returns c = let h = row-at (c .before .before .before .pre .0) (c .before .before .before .pre .1) in (part-holds h, (part-is h, part-long h))
+returns c = let h = c .before .before .before .pre .0 .indexed in (part-holds h _ (c .before .before .before .pre .1), (part-is h _ (c .before .before .before .pre .1), part-long h _ (c .before .before .before .pre .1)))
 
 pub outcomes-of-spec : {M : Type 1} → statement M
 outcomes-of-spec =

@@ -1,7 +1,8 @@
 -- `row_value` hands the row's part of the file to the weighted sum: the part that the index gives holds the row's outcomes.
 -- Made by `places make` from answers/value/row_value.ans: edit that file, and not this one.
 use mathlib.Core.Path.{_∙_}
-use Rattle.reading.proofs.RowValues.{part-ordered, part-inside, sum-there, cost-fits, mean-high, row-value-is, row-remainder-is}
+use Rattle.reading.specs.RowParts.{part-ordered, part-inside}
+use Rattle.reading.proofs.RowValues.{sum-there, cost-fits, mean-high, row-value-is, row-remainder-is}
 use borrow.Author.Needs.{needs}
 use native.Mathlib.Omega.{arith}
 use Rattle.reading.proofs.value.row_value.Statement.{statement}
@@ -20,7 +21,7 @@ element-copy-out-from : tie.Need-element-copy-out-from
 element-copy-out-from c = search needs
 
 cast-from : tie.Need-cast-from
-cast-from c = omega (arith, part-ordered (c .before .before .before .pre), part-inside (c .before .before .before .pre))
+cast-from c = omega (arith, part-ordered (c .before .before .before .pre .ready .indexed) _ (c .before .before .before .pre .row-there), part-inside (c .before .before .before .pre .ready .indexed) _ (c .before .before .before .pre .row-there))
 
 mul-cost : tie.Need-mul-cost
 mul-cost c = search needs
@@ -56,16 +57,16 @@ element-copy-out-to : tie.Need-element-copy-out-to
 element-copy-out-to c = search needs
 
 cast-to : tie.Need-cast-to
-cast-to c = omega (arith, part-inside (c .before .before .before .before .before .pre))
+cast-to c = omega (arith, part-inside (c .before .before .before .before .before .pre .ready .indexed) _ (c .before .before .before .before .before .pre .row-there))
 
 sub-weighted-sum : tie.Need-sub-weighted-sum
-sub-weighted-sum c = part-ordered (c .before .before .before .before .before .pre)
+sub-weighted-sum c = part-ordered (c .before .before .before .before .before .pre .ready .indexed) _ (c .before .before .before .before .before .pre .row-there)
 
 part-weighted-sum-start : tie.Need-part-weighted-sum-start
-part-weighted-sum-start c = part-ordered (c .before .before .before .before .before .pre)
+part-weighted-sum-start c = part-ordered (c .before .before .before .before .before .pre .ready .indexed) _ (c .before .before .before .before .before .pre .row-there)
 
 part-weighted-sum-end : tie.Need-part-weighted-sum-end
-part-weighted-sum-end c = part-inside (c .before .before .before .before .before .pre)
+part-weighted-sum-end c = part-inside (c .before .before .before .before .before .pre .ready .indexed) _ (c .before .before .before .before .before .pre .row-there)
 
 weighted-sum-requires : tie.Need-weighted-sum-requires
 weighted-sum-requires c κs = sum-there (c .before .before .before .before .before .before .pre)
