@@ -12,8 +12,7 @@ use Rattle.model.specs.Limits.{maxRows}
 use Rattle.model.specs.Problem.{Problem, endRow}
 use Rattle.model.specs.Sections.{problemOf}
 use Rattle.model.specs.Value.{rowValue, byState}
-use Rattle.model.specs.Rounds.{Found, beats, evaluate, skipped, considerOn, consider, scan, pickOf}
-use Rattle.model.specs.Traversal.{takenIf, othersFrom, traverse}
+use Rattle.model.specs.Rounds.{Found, beats, evaluate, skipped, considerOn, consider, scan, pickOf, takenIf, othersFrom, traverse}
 use Rattle.guarantee.specs.Evaluations.{others-count, scan-count}
 use Rattle.reading.specs.Ready.{Ready}
 use Rattle.reading.specs.RowParts.{rows-begin, rows-end}

@@ -9,8 +9,7 @@ use Rattle.model.specs.Limits.{valueBound}
 use Rattle.model.specs.Sections.{problemOf}
 use Rattle.model.specs.Value.{rowValue, byState}
 use Rattle.model.specs.Walk.{In}
-use Rattle.model.specs.Traversal.{takenIf, othersFrom}
-use Rattle.model.specs.Rounds.{Found, Machine, consider, scan, pickOf}
+use Rattle.model.specs.Rounds.{takenIf, othersFrom, Found, Machine, consider, scan, pickOf}
 use Rattle.guarantee.specs.WellFormed.{WellFormed}
 use Rattle.guarantee.specs.Choosing.{threshold}
 use Rattle.guarantee.specs.Sound.{SoundTables}

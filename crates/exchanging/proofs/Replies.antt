@@ -8,7 +8,7 @@ use lib.IntN.{pos}
 use lib.ListN.{length, getD, replicate, length-replicate}
 use borrow.Author.Tests.{le-leb, lt-leb}
 use Rattle.model.specs.Answers.{writeCarries, wroteCarries}
-use Rattle.model.specs.Buffers.{Holds, copied}
+use Rattle.model.specs.Buffers.{Holds, copied, Writing, written, refused}
 use Rattle.model.specs.Carried.{sized, refusal}
 use Rattle.model.specs.Encoding.{settingNumber, outcomesTo, partsTo}
 use Rattle.model.specs.Limits.{maxRows, maxOutcomes}
@@ -17,7 +17,6 @@ use Rattle.model.specs.Questions.{passes, fails, fileQuestions}
 use Rattle.model.specs.Rounds.{fillTo}
 use Rattle.model.specs.Sections.{problemOf}
 use Rattle.model.specs.SetForm.{setForm, exchangeQuestions, exchange}
-use Rattle.model.specs.Writing.{Writing, written, refused}
 use Rattle.model.specs.declared.WriteAnswer.{WriteAnswer}
 use Rattle.guarantee.specs.Tables.{fill-entry}
 use Rattle.reading.specs.Ready.{Ready}

@@ -8,7 +8,7 @@ use Rattle.model.specs.Audit.{Audited, accepted, refused as audit-refused}
 use Rattle.model.specs.Answers.{fileCarries, solveCarries, auditCarries, verdictCarries, answerCarries, auditedCarries}
 use Rattle.model.specs.Answers.{followedCarries, wroteCarries, verdictOf, answerOf, auditedOf}
 use Rattle.model.specs.Following.{Followed, done, refused as report-refused}
-use Rattle.model.specs.Writing.{Wrote, written, refused as write-refused}
+use Rattle.model.specs.Buffers.{Wrote, written, refused as write-refused}
 use Rattle.model.specs.declared.Follower.{Follower}
 use Rattle.model.specs.declared.FileAnswer.{FileAnswer}
 use Rattle.model.specs.declared.FileAnswer.the-variants.{Passed, Refused}

@@ -12,8 +12,7 @@ use borrow.Author.Tests.{ltb-true, ltb-false, lt-ltb, le-ltb, eq-eqb, ne-eqb}
 use Rattle.model.specs.Limits.{giveUp}
 use Rattle.model.specs.Problem.{Problem, giveUpCost, endRow, ownRow}
 use Rattle.model.specs.Value.{rowValue}
-use Rattle.model.specs.Traversal.{traverse}
-use Rattle.model.specs.Rounds.{beats, Chosen, pickOf, chooseOn, choose, givingUp, choice}
+use Rattle.model.specs.Rounds.{traverse, beats, Chosen, pickOf, chooseOn, choose, givingUp, choice}
 use Rattle.guarantee.specs.WellFormed.{WellFormed}
 use Rattle.guarantee.specs.Traversals.{traverse-along, traverse-keeps, traverse-every, traverse-idle}
 use Rattle.guarantee.specs.Rows.{own-low, own-high, own-within, row-no-mark}

@@ -9,8 +9,7 @@ use lib.ListN.{getD}
 use Rattle.model.specs.Problem.{Problem, endRow, ownRow}
 use Rattle.model.specs.Value.{rowValue, byState}
 use Rattle.model.specs.Walk.{walk}
-use Rattle.model.specs.Traversal.{othersFrom}
-use Rattle.model.specs.Rounds.{Found, Machine, beats, skipped, evaluateOn, considerOn, consider, scan}
+use Rattle.model.specs.Rounds.{othersFrom, Found, Machine, beats, skipped, evaluateOn, considerOn, consider, scan}
 use Rattle.model.specs.Rounds.{scanStart, settle, backup, backups, walked, round}
 use Rattle.guarantee.specs.WellFormed.{WellFormed}
 use Rattle.guarantee.specs.Rows.{own-low, own-high}

@@ -18,8 +18,7 @@ use Rattle.model.specs.Sections.{statesAt, rowsAt, outcomesAt, outcomesFrom, le
 use Rattle.model.specs.Questions.{passes}
 use Rattle.model.specs.Walk.{In, Reached, at-start, visitOutcomes, visitState, next, walk, pickCost, leastCost}
 use Rattle.model.specs.Rounds.{Machine, fillTo, machineStart, walked, scanOf, bellman, beats, evaluateOn, considerOn, consider}
-use Rattle.model.specs.Traversal.{takenIf, othersFrom, traverse}
-use Rattle.model.specs.Rounds.{raiseOn, settle, backup}
+use Rattle.model.specs.Rounds.{takenIf, othersFrom, traverse, raiseOn, settle, backup}
 use Rattle.model.specs.Carried.{counts}
 use Rattle.model.specs.Solution.{Solution, solveQuestions}
 use Rattle.model.specs.Following.{moved}

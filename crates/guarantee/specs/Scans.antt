@@ -10,8 +10,7 @@ use lib.ListN.{getD, set, length, length-set}
 use borrow.Author.Tests.{ltb-false}
 use Rattle.model.specs.Problem.{Problem}
 use Rattle.model.specs.Value.{rowValue}
-use Rattle.model.specs.Traversal.{traverse}
-use Rattle.model.specs.Rounds.{Found, beats, evaluateOn, considerOn, consider, scan, Chosen, pickOf, chooseOn, choose}
+use Rattle.model.specs.Rounds.{traverse, Found, beats, evaluateOn, considerOn, consider, scan, Chosen, pickOf, chooseOn, choose}
 use Rattle.guarantee.specs.WellFormed.{WellFormed}
 use Rattle.guarantee.specs.Tables.{stored}
 use Rattle.guarantee.specs.Walks.{own-row}

@@ -9,7 +9,7 @@ use mathlib.Core.Logic.{⊎-elim}
 use lib.Dec.{eqb}
 use borrow.Author.Tests.{eqb-true, eqb-false}
 use Rattle.model.specs.Problem.{Problem, endRow, ownRow}
-use Rattle.model.specs.Traversal.{takenIf, othersFrom, traverse}
+use Rattle.model.specs.Rounds.{takenIf, othersFrom, traverse}
 use Rattle.guarantee.specs.Rows.{own-low, own-high, own-within}
 
 -- the others: a row is taken, or it is the one picked before and passed over

@@ -11,7 +11,7 @@ use Rattle.model.specs.declared.SolveAnswer.{SolveAnswer}
 use Rattle.model.specs.declared.SolveAnswer.the-variants.{Solved, Spent, Refused as Turned-down}
 use Rattle.model.specs.declared.AuditAnswer.{AuditAnswer}
 use Rattle.model.specs.declared.AuditAnswer.the-variants.{Accepted, Refused as Audit-refused}
-use Rattle.model.specs.Writing.{Wrote, written, refused as write-refused}
+use Rattle.model.specs.Buffers.{Wrote, written, refused as write-refused}
 use Rattle.model.specs.declared.Follower.{Follower}
 use Rattle.model.specs.declared.FollowAnswer.{FollowAnswer}
 use Rattle.model.specs.declared.FollowAnswer.the-variants.{Done, Refused as Report-refused}

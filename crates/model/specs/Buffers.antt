@@ -4,10 +4,25 @@ use Prim.Native.Nat.{ℕ, _+_, _*_, _≤_}
 use mathlib.Core.List.{List, _++_}
 use lib.ListN.{length, take, drop}
 use Rattle.model.specs.Limits.{maxStates}
+use Rattle.model.specs.Questions.{Verdict, passes, fails}
 
 -- "at the front .. as far as it fits", and the rest stays: 1, 2 put on 7, 8, 9 is 1, 2, 9
 abbrev pub copied : {A : Type 0} → List A → List A → List A
 copied from to = take (length to) from ++ drop (length from) to
+
+-- Writing a file to a lent output: the length of what is written, or the question that said no; and the output as it is left
+pub data Wrote : Type 0 where
+  written : (size : ℕ) → Wrote
+  refused : (question place : ℕ) → Wrote
+
+pub record Writing : Type 0 where
+  pub answer : Wrote
+  pub left : List ℕ
+
+-- "Output bytes beyond it stay", and after a no the "output unchanged": 1, 2 written on 7, 8, 9 answers 2 and leaves 1, 2, 9
+abbrev pub writingOn : Verdict → List ℕ → List ℕ → Writing
+writingOn passes file out = record { answer = written (length file); left = copied file out }
+writingOn (fails q i) file out = record { answer = refused q i; left = out }
 
 -- a text was put at the front of a buffer: its first n entries are the text, cut where the buffer ends, and all others are as before
 pub record Holds (before after : List ℕ) (n : ℕ) (text : List ℕ) : Type 0 where

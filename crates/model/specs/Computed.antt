@@ -13,7 +13,7 @@ use Rattle.model.specs.Walk.{walk, visitState, visitOutcomes, next, leas
 use Rattle.model.specs.Rounds.{beats, evaluateOn, settle, raiseOn, machineStart, fillTo, listTable}
 use Rattle.model.specs.Solution.{solution, solutionOn, solutionOf, solveQuestions, checkedRunFrom}
 use Rattle.model.specs.Solution.{checkedRound, checkedBackups, checkedBackup, checkedScan}
-use Rattle.model.specs.Traversal.{takenIf, othersFrom, traverse}
+use Rattle.model.specs.Rounds.{takenIf, othersFrom, traverse}
 use Rattle.model.specs.Solution.{checkedConsider, checkedConsiderOn, checkedEvaluate}
 use Rattle.model.specs.Audit.{audit, problemAudit, tableQuestions, unboundedState, strayState, slackState}
 use Rattle.model.specs.Audit.{pickValue}

@@ -6,12 +6,11 @@ use mathlib.Core.List.{List, [], _∷_}
 use lib.Dec.{leb}
 use lib.ListN.{getD, length}
 use lib.IntN.{ℤ, pos}
-use Rattle.model.specs.Buffers.{copied}
+use Rattle.model.specs.Buffers.{copied, Writing}
 use Rattle.model.specs.Carried.{Said, passed, solved, spent, accepted, done, written, refused, Carried}
 use Rattle.model.specs.Answers.{answerCarries, followedCarries, wroteCarries}
 use Rattle.model.specs.Solution.{Tables, Solution}
 use Rattle.model.specs.Following.{Report}
-use Rattle.model.specs.Writing.{Writing}
 use Rattle.model.specs.declared.Follower.{Follower}
 
 -- what a call hands to C: its status, the entries at the front of `answer`, and what else is lent, as it is left

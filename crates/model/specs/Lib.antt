@@ -8,14 +8,12 @@ pub mod Sections
 pub mod Questions
 pub mod Lookup
 pub mod Walk
-pub mod Traversal
 pub mod Rounds
 pub mod Carried
 pub mod Solution
 pub mod Audit
 pub mod Following
 pub mod Buffers
-pub mod Writing
 pub mod Encoding
 pub mod SetForm
 pub mod Answers

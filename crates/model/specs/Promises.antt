@@ -17,12 +17,11 @@ use Rattle.model.specs.Cover.{Choice, Cover, planOf, allowance, openTo}
 use Rattle.model.specs.Carried.{Said, Carried}
 use Rattle.model.specs.Following.{Report}
 use Rattle.model.specs.Answers.{answerCarries, followCarries, followedCarries, writeCarries, wroteCarries}
-use Rattle.model.specs.Writing.{Writing}
+use Rattle.model.specs.Buffers.{Writing, Holds}
 use Rattle.model.specs.declared.Follower.{Follower}
 use Rattle.model.specs.declared.FollowAnswer.{FollowAnswer}
 use Rattle.model.specs.declared.WriteAnswer.{WriteAnswer}
 use Rattle.model.specs.Lines.{planText, runStates, auditLine}
-use Rattle.model.specs.Buffers.{Holds}
 use Rattle.model.specs.TableFiles.{entries16, entries32}
 
 -- what a call of `solve` answers and the four tables as it leaves them are those of a solution

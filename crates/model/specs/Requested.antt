@@ -15,7 +15,7 @@ use Rattle.model.specs.Following.{waySeconds, done, refused, opening}
 use Rattle.model.specs.Following.{report, reports, acceptedOf}
 use Rattle.model.specs.Lines.{codes, planText}
 use Rattle.model.specs.SetForm.{weightTo, setForm, exchange}
-use Rattle.model.specs.Writing.{written, refused as write-refused}
+use Rattle.model.specs.Buffers.{written, refused as write-refused}
 use Rattle.model.specs.Sheets.{rateLines}
 use Rattle.model.specs.CaseFiles.{fileP}
 use Rattle.model.specs.CaseFiles.{rateP, penaltyP, tied, tiedTwice}

@@ -5,10 +5,9 @@ use mathlib.Core.List.{List, [], _∷_, _++_}
 use lib.Dec.{leb, ltb, eqb}
 use lib.ListN.{getD, set, length, drop, replicate}
 use Rattle.model.specs.Limits.{giveUp, noPick, listEnd}
-use Rattle.model.specs.Problem.{Problem, giveUpCost}
+use Rattle.model.specs.Problem.{Problem, giveUpCost, ownRow}
 use Rattle.model.specs.Value.{rowValue, byState}
 use Rattle.model.specs.Walk.{walk}
-use Rattle.model.specs.Traversal.{traverse}
 
 -- a scan so far: best, the pick, the evaluations counted, and what each row remembers
 pub record Found : Type 0 where
@@ -44,7 +43,21 @@ considerOn false p v r a = evaluate (rowValue p v r) r a
 unfoldable pub consider : Problem → (ℕ → ℕ) → ℕ → Found → Found
 consider p v r a = considerOn (skipped r a) p v r a
 
--- "Take first the row picked before, if any, then the others in row order."
+-- "Take first the row picked before, if any, then the others in row order.": the traversal of a state's rows, with what is done at a row as
+-- its argument. A row is taken where the test says so
+unfoldable pub takenIf : {A : Type 0} → (ℕ → A → A) → Bool → ℕ → A → A
+takenIf take true r a = take r a
+takenIf take false r a = a
+
+-- "then the others in row order": k rows from r on, but for the pick before
+unfoldable pub othersFrom : {A : Type 0} → (ℕ → A → A) → ℕ → ℕ → ℕ → A → A
+othersFrom take prev r zero a = a
+othersFrom take prev r (suc k) a = othersFrom take prev (suc r) k (takenIf take (not (eqb r prev)) r a)
+
+-- the rows of state s: of rows 4, 5, 6, 7 with pick 6 they are 6, 4, 5, 7
+unfoldable pub traverse : {A : Type 0} → (ℕ → A → A) → Problem → ℕ → ℕ → A → A
+traverse take p s prev a = othersFrom take prev (p .firstRow s) (p .rowCount s) (takenIf take (ownRow p s prev) prev a)
+
 abbrev pub scan : Problem → (ℕ → ℕ) → ℕ → ℕ → Found → Found
 scan p v s prev a = traverse (consider p v) p s prev a
 

@@ -13,7 +13,7 @@ use Rattle.model.specs.Questions.{Verdict, passes, fails, _then_, ask, f
 use Rattle.model.specs.Walk.{walk, leastCost}
 use Rattle.model.specs.Carried.{counts}
 use Rattle.model.specs.declared.Counts.{Counts}
-use Rattle.model.specs.Traversal.{traverse}
+use Rattle.model.specs.Rounds.{traverse}
 use Rattle.model.specs.Rounds.{Found, Machine, Ending, evaluate, skipped, scanStart, settle, walked, machineStart, listTable}
 
 -- "At an evaluation: does the row value fit in 32 bits? 14 (row; tables as before that backup).": all is fine, or the value of a
