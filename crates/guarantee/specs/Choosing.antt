@@ -157,7 +157,8 @@ module _ (q : ℕ → ℕ) (prev first : ℕ) where
       at i high P here there =
           ⊎-elim (λ e. let same : i ≡ j = omega (arith, e) in rw same (here same)) (λ l. there (omega arith)) (eq-or-lt-of-le high)
 
-  order-picked : (j : ℕ) (c : Chosen) → j < giveUp → q j < threshold c → Order q prev first j c → Order q prev first (suc j) (pickOf (q j) j)
+  order-picked
+      : (j : ℕ) (c : Chosen) → j < giveUp → q j < threshold c → Order q prev first j c → Order q prev first (suc j) (pickOf (q j) j)
   order-picked j c few less h =
       record {
         placed = at-earlier (omega arith);
@@ -197,7 +198,8 @@ module _ (p : Problem) (formed : WellFormed p) (v : ℕ → ℕ) (s : ℕ) (stat
       first : ownRow p s (c .pick) ≡ true → Landed p v s c → choose (rowValue p v) (c .pick) (givingUp p) ≡ c
       first own (at-giving-up e b) = absurd (omega (arith, few (c .pick) own))
       first own (at-row o b high) =
-          choose-takes (rowValue p v) (c .pick) (givingUp p) (omega (arith, threshold-giving-up (givingUp p) refl)) ∙ same-chosen (sym b) refl
+          choose-takes (rowValue p v) (c .pick) (givingUp p) (omega (arith, threshold-giving-up (givingUp p) refl))
+          ∙ same-chosen (sym b) refl
 
       given : ownRow p s (c .pick) ≡ false → Landed p v s c → givingUp p ≡ c
       given none (at-giving-up e b) = same-chosen (sym b) (sym e)

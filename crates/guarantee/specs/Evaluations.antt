@@ -38,7 +38,8 @@ module _ (p : Problem) (v : ℕ → ℕ) where
 
   pub others-count : (prev r k : ℕ) (a : Found) → a .count ≤ othersFrom (consider p v) prev r k a .count
   others-count prev r k a =
-      others-keep (consider p v) prev k r a (λ (b : Found). a .count ≤ b .count) (λ i b l. omega (arith, l, consider-count i b .no-less)) (omega arith)
+      others-keep (consider p v) prev k r a (λ (b : Found). a .count ≤ b .count)
+      (λ i b l. omega (arith, l, consider-count i b .no-less)) (omega arith)
 
   -- when a scan has come to row j: one row more may be counted than those before j, while the one picked before is not passed over
   record CountedTo (s prev base j : ℕ) (a : Found) : Type 0 where

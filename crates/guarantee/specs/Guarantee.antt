@@ -1,7 +1,7 @@
 -- What is promised of the rules of documents 01 and 02: each sentence is quoted over the theorem that it is, and a proof is a line
 -- that cites. Nothing has to be believed but the model. The statements add `Met`, `after` and `taken` below and, of other files, with what
--- these rest on: `Accepts`, with `NoUndercut` and `Marked`; `Beyond`; `HasLine` and `PickLine`; `Encodable`, with `WellFormed`; `Says`;
--- `machineOf`; `Allowed`; `Takes`. All else that a statement names is of the model, or of the kit.
+-- these rest on: `Accepts`, with `AcceptsWithin`, `NoUndercut` and `Marked`; `Beyond`; `HasLine` and `PickLine`; `Encodable`, with
+-- `WellFormed`; `Says`; `machineOf`; `Allowed`; `Takes`. All else that a statement names is of the model, or of the kit.
 use mathlib.Core.Path.{_≡_, _∙_, ap}
 use Prim.Native.Nat.{ℕ, _+_, _-_, _*_, _≤_, _<_}
 use native.Mathlib.Omega.{arith}
@@ -299,11 +299,12 @@ module _ (p : Problem) (t : Tables) (e : ℕ) where
   unfolding round
   round-met m met = backups-met (walk p (byState (m .picks)) .list) (walked p m) (walks met)
 
-  -- a run from a machine that is met, with whatever tolerance and budget, and so after each round, ends at one
+  -- a run from a machine that is met, with whatever tolerance, ends at one
   pub run-goes-on-met
       : (budget : ℕ) (going : Bool) (n : ℕ) (m : Machine) → Met p t [] m → Met p t [] (machineOf (runFrom p e budget going n m))
   run-goes-on-met = run-keeps p e (λ n. Met p t []) (λ n. round-met)
 
+-- so, whatever the budget, and after each round, the run's machine is met
 pub run-met : (p : Problem) (t : Tables) (budget : ℕ) → Met p t [] (machineOf (runOf p budget (t .values) (t .picks) (t .remembered)))
 run-met p t budget = run-goes-on-met p t (p .tolerance) budget true 0 _ starts
 

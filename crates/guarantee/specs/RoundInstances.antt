@@ -141,8 +141,8 @@ pub tied-again : scanOf (problemOf tied) 0 secondTied .pick ≡ 0
 unfolding walk visitState visitOutcomes next machineStart fillTo backup settle raiseOn traverse othersFrom takenIf consider considerOn
     beats evaluateOn problemOf statesAt rowsAt outcomesAt outcomesFrom secondsOn sumTo u16At u32At rowValue weightedSum
 tied-again =
-    earlier-pick-wins tied planRounds (lent 2) (requested-hold .1 .1 .1 .1 .1 .1 .1 .0) tied-lent (walks (backs-up (problemOf tied .tolerance) tied-met)) refl
-    (leb-true _ _ refl)
+    earlier-pick-wins tied planRounds (lent 2) (requested-hold .1 .1 .1 .1 .1 .1 .1 .0) tied-lent
+    (walks (backs-up (problemOf tied .tolerance) tied-met)) refl (leb-true _ _ refl)
 
 -- and on a file whose row 1 is cheaper at first: it is picked, and row 0, before it, costs more
 abbrev pub firstLater : Machine

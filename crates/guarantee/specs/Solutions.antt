@@ -229,7 +229,8 @@ module _ (f : List ℕ) (budget : ℕ) (t : Tables) where
   pub solved-ends : {c : Counts} (by : SolvedBy f budget t c) → Final (problemOf f) (problemOf f .tolerance) (by .machine)
   solved-ends {c} by =
       let p = problemOf f in
-      solved-final p (well-formed f (by .file)) (p .tolerance) budget 0 _ (c .rounds) (by .machine) (lent-sound f budget t (by .file) (by .lent)) (by .run)
+      solved-final p (well-formed f (by .file)) (p .tolerance) budget 0 _ (c .rounds) (by .machine)
+      (lent-sound f budget t (by .file) (by .lent)) (by .run)
 
   -- whatever the budget: the audit accepts what a solved run left, and gives the run's C
   pub answer-accepted

@@ -23,7 +23,9 @@ module _ {A B : Type 0} (f : ℕ → A → A) (g : ℕ → B → B) (prev : ℕ)
   others-both zero r a b taken passed h = let end : r + 0 ≡ r = omega arith in rw end h
   others-both (suc k) r a b taken passed h =
       let end : r + suc k ≡ suc r + k = omega arith in
-      rw end (others-both k (suc r) _ _ (λ i a b low high. taken i a b (omega arith) (omega arith)) (λ a b low high. passed a b (omega arith) (omega arith)) (go (eqb r prev) refl))
+      rw end
+      (others-both k (suc r) _ _ (λ i a b low high. taken i a b (omega arith) (omega arith))
+      (λ a b low high. passed a b (omega arith) (omega arith)) (go (eqb r prev) refl))
     where
       go : (same : Bool) → eqb r prev ≡ same → R (suc r) (takenIf f (not same) r a) (takenIf g (not same) r b)
       go true e =
@@ -90,13 +92,14 @@ module _ (p : Problem) (s prev : ℕ) where
         (λ j a own other h. (
           λ o. stays prev j a own (h .0 o),
           λ i low high.
-              ⊎-elim (λ at. let same : i ≡ j = omega (arith, at) in rw same (taken j a own)) (λ l. stays i j a own (h .1 i low (omega arith)))
-              (eq-or-lt-of-le high),
+              ⊎-elim (λ at. let same : i ≡ j = omega (arith, at) in rw same (taken j a own))
+              (λ l. stays i j a own (h .1 i low (omega arith))) (eq-or-lt-of-le high),
         ))
         (λ a own h. (
           h .0,
           λ i low high.
-              ⊎-elim (λ at. let same : i ≡ prev = omega (arith, at) in rw same (h .0 own)) (λ l. h .1 i low (omega arith)) (eq-or-lt-of-le high),
+              ⊎-elim (λ at. let same : i ≡ prev = omega (arith, at) in rw same (h .0 own)) (λ l. h .1 i low (omega arith))
+              (eq-or-lt-of-le high),
         ))
         .1 i (own-low p s i own) (own-high p s i own)
 

@@ -62,7 +62,8 @@ pub record Ran (p : Problem) (e budget : ℕ) (from : Ended) (t t′ : Tables) (
   pub ends
       : runFrom p e (budget - from .counts .rounds) true (from .counts .rounds)
       (machineWith t (take (from .listed) (t .walk-list)) (from .counts .evaluations) true)
-      ≡ endedAs (r .solved) (r .counts .rounds) (machineWith t′ (take (r .listed) (t′ .walk-list)) (r .counts .evaluations) (not (r .solved)))
+      ≡ endedAs (r .solved) (r .counts .rounds)
+      (machineWith t′ (take (r .listed) (t′ .walk-list)) (r .counts .evaluations) (not (r .solved)))
   pub stands : Begun p budget r
   pub least : r .solved ≡ true → r .counts .least ≡ leastCost p (byState (t′ .picks))
   pub no-least : r .solved ≡ false → r .counts .least ≡ 0
