@@ -6,8 +6,8 @@
  * What the caller sees to: the tables, the file, the answer and the record that are lent to one call do not overlap; each is aligned as
  * an array of its entries is, a file to any byte; a pointer may be anything only where its number of entries is 0.
  *
- * Stack, measured on the deepest file (docs/MEASURED.md): solve, audit, open and report need 176 KiB, set_form 84 KiB, check and rows 48 KiB.
- * A thread may have less than the main program: give one that makes these calls 256 KiB. */
+ * Stack, measured on the deepest file (docs/MEASURED.md): solve, finish, audit, open and report need 176 KiB, set_form 84 KiB, check
+ * and rows 48 KiB. A thread may have less than the main program: give one that makes these calls 256 KiB. */
 #ifndef CUULIPSO_H
 #define CUULIPSO_H
 
@@ -52,6 +52,17 @@ uint8_t cuulipso_solve(const uint8_t *file, size_t file_length, uint64_t budget,
                        uint32_t *remembered, size_t remembered_length,
                        uint16_t *walk, size_t walk_length,
                        uint64_t *answer, size_t answer_length);
+
+/* Runs up to budget rounds, and on to the tick: after the quiet round at which cuulipso_solve ends as solved it goes on with tolerance 1
+ * until the next quiet round. Rounds, evaluations and budget run through both parts, and a run whose budget is reached in either is spent.
+ * Where it is solved, the value of each state in walk is exactly its pick's row value, or 1000 x D where it gives up, and an audit accepts
+ * values and picks under the file's tolerance and under 1. All else is as for cuulipso_solve. */
+uint8_t cuulipso_finish(const uint8_t *file, size_t file_length, uint64_t budget,
+                        uint32_t *values, size_t values_length,
+                        uint16_t *picks, size_t picks_length,
+                        uint32_t *remembered, size_t remembered_length,
+                        uint16_t *walk, size_t walk_length,
+                        uint64_t *answer, size_t answer_length);
 
 /* Audits tables from any origin for a file; changes neither. */
 uint8_t cuulipso_audit(const uint8_t *file, size_t file_length,

@@ -1,12 +1,15 @@
-/* Checks, solves and audits a problem file through the C interface, and prints what it got.
+/* Checks, solves and audits a problem file through the C interface, and prints what it got. With the word finish behind the name it
+ * solves the file to the tick.
  *
  *     gcc -O2 -Iexamples/c examples/c/plan_and_audit.c target/staticlib/libcapi.a -o plan_and_audit
- *     ./plan_and_audit examples/P */
+ *     ./plan_and_audit examples/P
+ *     ./plan_and_audit examples/P finish */
 #include "cuulipso.h"
 #include "problem_file.h"
 
 #include <inttypes.h>
 #include <stdio.h>
+#include <string.h>
 
 #define ROUNDS UINT64_C(1000000)
 
@@ -40,13 +43,14 @@ static void print_states(void)
     }
 }
 
-/* Solves a file that passed. */
-static void solve(void)
+/* Solves a file that passed; to the tick where it shall finish. The two functions take the same arguments. */
+static void solve(int finishing)
 {
     uint64_t answer[CUULIPSO_ANSWER];
-    uint8_t code = cuulipso_solve(file, file_length, ROUNDS, values, CUULIPSO_STATES, picks, CUULIPSO_STATES,
-                                  remembered, CUULIPSO_ROWS, walk, CUULIPSO_STATES, answer, CUULIPSO_ANSWER);
-    printf("solve: %s, %" PRIu64 " rounds, %" PRIu64 " evaluations, C %" PRIu64 "\n",
+    uint8_t code = (finishing ? cuulipso_finish : cuulipso_solve)(
+        file, file_length, ROUNDS, values, CUULIPSO_STATES, picks, CUULIPSO_STATES,
+        remembered, CUULIPSO_ROWS, walk, CUULIPSO_STATES, answer, CUULIPSO_ANSWER);
+    printf("%s: %s, %" PRIu64 " rounds, %" PRIu64 " evaluations, C %" PRIu64 "\n", finishing ? "finish" : "solve",
            code == CUULIPSO_SOLVED ? "solved" : "spent", answer[0], answer[1], answer[2]);
     print_states();
 }
@@ -66,8 +70,9 @@ static void audit(void)
 
 int main(int count, char **words)
 {
-    if (count != 2) {
-        fprintf(stderr, "plan_and_audit: give the name of a problem file\n");
+    int finishing = count == 3 && strcmp(words[2], "finish") == 0;
+    if (count != 2 && !finishing) {
+        fprintf(stderr, "plan_and_audit: give the name of a problem file, and the word finish where the run shall finish\n");
         return 1;
     }
     if (!read_file("plan_and_audit", words[1]))
@@ -76,7 +81,7 @@ int main(int count, char **words)
         walk[at] = CUULIPSO_NO_STATE;
     if (!check())
         return 0;
-    solve();
+    solve(finishing);
     audit();
     values[0]++;
     printf("with the value of state 0 a tick higher:\n");

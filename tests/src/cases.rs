@@ -1,14 +1,15 @@
-//! The starred items of "Melt-room cases" and the cases of requests E1, E3 and E7, a test or two each.
+//! The starred items of "Melt-room cases" and the cases of requests E1, E3, E7 and E8, a test or two each.
 
 use crate::audit::{audit_file, Verdict};
 use crate::encode::Draft;
 use crate::examples::{file_p, one_state, p_with_penalty, with_total};
+use crate::finishing::{coarse, slipping, with_tolerance};
 use crate::limits::*;
-use crate::listing::{plan_lines, planned_within};
+use crate::listing::{plan_lines, planned_by, planned_within};
 use crate::made::made;
 use crate::problem::{average, seconds_of, Outcome, Problem, Refusal};
 use crate::random::Random;
-use crate::solver::{solve, Answer, OwnedTables, Run};
+use crate::solver::{solve, Answer, Kind, OwnedTables, Run};
 use crate::totals::{total_of, Fourth, FOURTHS};
 
 /// The refusal of a draft's file, if it is refused.
@@ -195,24 +196,15 @@ fn ties_between_rows_go_to_the_earlier_pick_and_then_to_row_order() {
     assert_eq!(lines(&draft), "solved 3 6 100000\n0 200000 1 0\n1 100000 2 0\n");
 }
 
-/// State 0 with one row of a second, which leads back to it at a weight and else to the goal.
-fn slipping(back: u16) -> Draft {
-    let mut draft = Draft::new(0, 1, 5_000);
-    draft.add_state();
-    draft.add_row(KIND_SECONDS, 1, &[(0, back), (1, USUAL_TOTAL as u16 - back)]);
-    draft.add_goal();
-    draft
-}
-
 /// What `plan` would print of a draft with so many rounds.
 fn lines_within(draft: &Draft, rounds: u64) -> String {
-    planned_within(&draft.bytes(), rounds).lines
+    planned_within(Kind::Plain, &draft.bytes(), rounds).lines
 }
 
 /// E3: "its remainder, 0 to 999".
 #[test]
 fn remainders_go_from_0_to_999() {
-    let problem = Problem::read(&slipping(1).bytes()).expect("whole");
+    let problem = Problem::read(&slipping(1, 1).bytes()).expect("whole");
     let remainder = |value| problem.row_remainder(0, &[value, 0]);
     assert_eq!([0, 1, 999, 1_000, 1_999].map(remainder), [0, 1, 999, 0, 999]);
 }
@@ -220,14 +212,14 @@ fn remainders_go_from_0_to_999() {
 /// "Each state line of `plan` ends with the remainder of its pick": 333 × 1,498 = 498,834.
 #[test]
 fn a_solved_line_ends_with_the_remainder() {
-    assert_eq!(lines(&slipping(333)), "solved 8 8 1000\n0 1498 0 834\n");
+    assert_eq!(lines(&slipping(1, 333)), "solved 8 8 1000\n0 1498 0 834\n");
 }
 
 /// "under the final values": 333 × 1,333 = 443,889, where the last round had still seen 1,000.
 #[test]
 fn a_spent_line_ends_with_the_remainder_under_the_final_values() {
-    assert_eq!(lines_within(&slipping(333), 1), "spent 1 1\n0 1000 0 0\n");
-    assert_eq!(lines_within(&slipping(333), 2), "spent 2 2\n0 1333 0 889\n");
+    assert_eq!(lines_within(&slipping(1, 333), 1), "spent 1 1\n0 1000 0 0\n");
+    assert_eq!(lines_within(&slipping(1, 333), 2), "spent 2 2\n0 1333 0 889\n");
 }
 
 /// "0 for `give`".
@@ -287,7 +279,7 @@ fn p_is_planned_in_each_total() {
 fn remainders_run_below_the_total() {
     for fourth in FOURTHS {
         let total = total_of(fourth);
-        let mut draft = slipping(1).with_fourth(fourth);
+        let mut draft = slipping(1, 1).with_fourth(fourth);
         draft.outcomes[1].weight = total as u16 - 1;
         let problem = Problem::read(&draft.bytes()).expect("whole");
         let remainder = |value| problem.row_remainder(0, &[value, 0]);
@@ -347,4 +339,61 @@ fn weights_and_rows_have_the_files_total() {
             assert_eq!(refusal(&row), asked(1), "{fourth:?}");
         }
     }
+}
+
+/// What `plan --finish` prints of a draft.
+fn finished_lines(draft: &Draft) -> String {
+    planned_by(Kind::Finishing, &draft.bytes()).lines
+}
+
+/// What it would print with so many rounds.
+fn finished_lines_within(draft: &Draft, rounds: u64) -> String {
+    planned_within(Kind::Finishing, &draft.bytes(), rounds).lines
+}
+
+/// E8: P, whose tolerance is 1, has one quiet round more, with two evaluations.
+#[test]
+fn p_finished_prints_whole() {
+    assert_eq!(finished_lines(&file_p()), "solved 4 7 100000\n0 370000 0 0\n1 300000 2 0\n");
+}
+
+/// "Its counts run through both parts": the budget is one for both, and 3 is reached at the first quiet
+/// round.
+#[test]
+fn p_finished_is_spent_with_up_to_three_rounds() {
+    for (rounds, head) in (0..).zip(["spent 0 0\n", "spent 1 1\n", "spent 2 3\n", "spent 3 5\n"]) {
+        assert!(finished_lines_within(&file_p(), rounds).starts_with(head), "{rounds}");
+    }
+    assert_eq!(finished_lines_within(&file_p(), 4), finished_lines(&file_p()));
+    let after = finished_lines_within(&file_p(), 3);
+    assert_eq!(after, "spent 3 5\n0 370000 0 0\n1 300000 2 0\n");
+}
+
+/// The plain run ends 37 ticks under the row value, and the finishing run goes on.
+#[test]
+fn a_coarse_plan_is_finished_to_the_tick() {
+    assert_eq!(lines(&coarse()), "solved 4 4 1000\n0 1443 0 519\n");
+    assert_eq!(finished_lines(&coarse()), "solved 9 9 1000\n0 1498 0 834\n");
+}
+
+/// A budget that ends at the first quiet round, and one that ends before the second.
+#[test]
+fn a_coarse_plan_is_spent_in_either_part() {
+    assert_eq!(finished_lines_within(&coarse(), 4), "spent 4 4\n0 1443 0 519\n");
+    assert_eq!(finished_lines_within(&coarse(), 8), "spent 8 8\n0 1498 0 834\n");
+    assert_eq!(finished_lines_within(&coarse(), 9), finished_lines(&coarse()));
+}
+
+/// "The audit accepts the answer under the file's own e and under 1"; the plain run's it refuses under 1.
+#[test]
+fn a_finished_plan_is_accepted_under_1() {
+    let file = coarse().bytes();
+    let verdict = |kind, tolerance| {
+        let tables = planned_by(kind, &file).tables.expect("not refused");
+        audit_file(&with_tolerance(&file, tolerance), &tables.values, &tables.picks)
+    };
+    let accepted = Verdict::Accepted { least_cost: 1_000 };
+    assert_eq!([100, 1].map(|tolerance| verdict(Kind::Finishing, tolerance)), [accepted; 2]);
+    assert_eq!(verdict(Kind::Plain, 100), accepted);
+    assert_eq!(verdict(Kind::Plain, 1), Verdict::Refused { question: 19, place: 0, excess: -37 });
 }

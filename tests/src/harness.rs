@@ -175,9 +175,14 @@ impl Tally {
         in_all.chain(by_way).map(|(name, _)| *name).collect()
     }
 
-    /// Prints the counts. Success where nothing differed, and each question was met as often and there
-    /// is as much of everything as the tally asks for.
+    /// Prints the counts. Success where it closes well.
     pub fn close(&self) -> ExitCode {
+        exit_code(self.closes_well())
+    }
+
+    /// Prints the counts. Says whether nothing differed, and each question was met as often and there is
+    /// as much of everything as the tally asks for.
+    fn closes_well(&self) -> bool {
         for (name, count) in &self.named {
             match self.least.iter().chain(&self.least_by_way).find(|(known, _)| known == name) {
                 Some((_, least)) => println!("{name}: {count} (at least {least})"),
@@ -198,10 +203,25 @@ impl Tally {
             println!("fewer than asked for: {}", few.join(", "));
         }
         println!("{} comparisons, {} differences", self.compared, self.differences);
-        match self.differences == 0 && rare.is_empty() && few.is_empty() {
-            true => ExitCode::SUCCESS,
-            false => ExitCode::FAILURE,
-        }
+        self.differences == 0 && rare.is_empty() && few.is_empty()
+    }
+}
+
+/// Closes tallies, each under a head. Success where all of them close well.
+pub fn close_all(tallies: &[(&str, &Tally)]) -> ExitCode {
+    let close = |&(head, tally): &(&str, &Tally)| {
+        println!("{head}:");
+        tally.closes_well()
+    };
+    let well: Vec<bool> = tallies.iter().map(close).collect();
+    exit_code(well.into_iter().all(|well| well))
+}
+
+/// The exit code of what went well, or did not.
+fn exit_code(well: bool) -> ExitCode {
+    match well {
+        true => ExitCode::SUCCESS,
+        false => ExitCode::FAILURE,
     }
 }
 
@@ -270,9 +290,14 @@ mod tests {
         with_total(&file_p(), fourth).bytes()
     }
 
+    /// Whether a code is that of success.
+    fn is_success(code: ExitCode) -> bool {
+        format!("{code:?}") == format!("{:?}", ExitCode::SUCCESS)
+    }
+
     /// Whether a tally closes well.
     fn closes(tally: &Tally) -> bool {
-        format!("{:?}", tally.close()) == format!("{:?}", ExitCode::SUCCESS)
+        is_success(tally.close())
     }
 
     /// Whether it closes well where a question must have been met so often.
@@ -294,6 +319,14 @@ mod tests {
     fn a_tally_asks_for_enough_and_no_difference() {
         assert!(closes_with(2, false) && closes_with(3, false));
         assert!(!closes_with(1, false) && !closes_with(0, false) && !closes_with(2, true));
+    }
+
+    #[test]
+    fn tallies_close_well_where_all_of_them_do() {
+        let (well, ill) = (Tally::default(), Tally::asking(&[("solved", 1)]));
+        assert!(is_success(close_all(&[("one", &well), ("two", &well)])));
+        assert!(!is_success(close_all(&[("one", &well), ("two", &ill)])));
+        assert!(!is_success(close_all(&[("one", &ill), ("two", &well)])));
     }
 
     /// Each way to tell a total must have its share, of questions and of what is asked for by name.

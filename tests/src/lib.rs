@@ -8,6 +8,7 @@ pub mod damage;
 pub mod encode;
 pub mod examples;
 pub mod extremes;
+pub mod finishing;
 pub mod follower;
 pub mod harness;
 pub mod library;

@@ -6,7 +6,7 @@
 use crate::audit::Verdict;
 use crate::follower::{Followed, Record};
 use crate::problem::Problem;
-use crate::solver::{Answer, Tables};
+use crate::solver::{Answer, Kind, Tables};
 
 extern "C" {
     fn cuulipso_check(
@@ -23,6 +23,21 @@ extern "C" {
         out_length: usize,
     ) -> u64;
     fn cuulipso_solve(
+        file: *const u8,
+        file_length: usize,
+        budget: u64,
+        values: *mut u32,
+        values_length: usize,
+        picks: *mut u16,
+        picks_length: usize,
+        remembered: *mut u32,
+        remembered_length: usize,
+        walk: *mut u16,
+        walk_length: usize,
+        answer: *mut u64,
+        answer_length: usize,
+    ) -> u8;
+    fn cuulipso_finish(
         file: *const u8,
         file_length: usize,
         budget: u64,
@@ -113,12 +128,22 @@ pub fn rows(file: &[u8], state: u64, out: &mut [u8]) -> u64 {
     unsafe { cuulipso_rows(file.as_ptr(), file.len(), state, out.as_mut_ptr(), out.len()) }
 }
 
-/// The product's run.
+/// The product's plain run.
 #[inline]
 pub fn solve(file: &[u8], budget: u64, tables: Tables, answer: &mut [u64]) -> u8 {
+    run(Kind::Plain, file, budget, tables, answer)
+}
+
+/// The product's run of a kind.
+#[inline]
+pub fn run(kind: Kind, file: &[u8], budget: u64, tables: Tables, answer: &mut [u64]) -> u8 {
     let Tables { values, picks, remembered, walk } = tables;
+    let function = match kind {
+        Kind::Plain => cuulipso_solve,
+        Kind::Finishing => cuulipso_finish,
+    };
     unsafe {
-        cuulipso_solve(
+        function(
             file.as_ptr(),
             file.len(),
             budget,

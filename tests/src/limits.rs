@@ -29,6 +29,8 @@ pub const OUTCOME_BYTES: usize = 4;
 
 /// "Tolerance e in ticks, 1 to 999."
 pub const MAX_TOLERANCE: u32 = 999;
+/// E8: "with tolerance 1 until the next quiet round".
+pub const FINISHING_TOLERANCE: u32 = 1;
 /// "Penalty D in seconds, 1 to 400,000."
 pub const MAX_PENALTY: u32 = 400_000;
 

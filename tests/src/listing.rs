@@ -4,7 +4,7 @@
 use crate::audit::Verdict;
 use crate::limits::{GIVE_UP, PLAN_ROUNDS};
 use crate::problem::{Problem, Refusal};
-use crate::solver::{solve, Answer, OwnedTables};
+use crate::solver::{run, Answer, Kind, OwnedTables};
 use std::fmt::Write;
 
 /// What a run of `plan` leaves: its lines, and its tables unless the file is refused.
@@ -15,18 +15,23 @@ pub struct Planned {
 
 /// The run of `plan` on a file.
 pub fn planned(file: &[u8]) -> Planned {
-    planned_within(file, PLAN_ROUNDS)
+    planned_by(Kind::Plain, file)
+}
+
+/// The run of `plan` on a file by a kind of run: `--finish` asks for the finishing one.
+pub fn planned_by(kind: Kind, file: &[u8]) -> Planned {
+    planned_within(kind, file, PLAN_ROUNDS)
 }
 
 /// The run of `plan` on a file, were it to have so many rounds.
-pub fn planned_within(file: &[u8], rounds: u64) -> Planned {
+pub fn planned_within(kind: Kind, file: &[u8], rounds: u64) -> Planned {
     let refused = |refusal| Planned { lines: refusal_line(refusal), tables: None };
     let problem = match Problem::read(file) {
         Ok(problem) => problem,
         Err(refusal) => return refused(refusal),
     };
     let mut tables = OwnedTables::new(&problem);
-    let head = match solve(&problem, rounds, tables.lend()).answer {
+    let head = match run(kind, &problem, rounds, tables.lend()).answer {
         Answer::Solved { rounds, evaluations, least_cost } => {
             format!("solved {rounds} {evaluations} {least_cost}\n")
         }
@@ -36,12 +41,13 @@ pub fn planned_within(file: &[u8], rounds: u64) -> Planned {
     Planned { lines: head + &state_lines(&problem, &tables), tables: Some(tables) }
 }
 
-/// Whether the run of `plan` on a file is refused or ends within so many rounds.
+/// Whether runs of both kinds on a file are refused or end within so many rounds: where the finishing run
+/// ends, the plain one did before.
 pub fn ends_within(file: &[u8], rounds: u64) -> bool {
     let Ok(problem) = Problem::read(file) else {
         return true;
     };
-    let run = solve(&problem, rounds, OwnedTables::new(&problem).lend());
+    let run = run(Kind::Finishing, &problem, rounds, OwnedTables::new(&problem).lend());
     !matches!(run.answer, Answer::Spent { .. })
 }
 

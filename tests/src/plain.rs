@@ -3,7 +3,7 @@
 
 use crate::limits::*;
 use crate::problem::Problem;
-use crate::solver::{Answer, OwnedTables};
+use crate::solver::{Answer, Kind, OwnedTables};
 
 /// The ties that a run met, each kind counted.
 #[derive(Clone, Copy, Debug, Default)]
@@ -75,6 +75,7 @@ fn taken_in_order(problem: &Problem, before: u16, state: usize) -> Vec<usize> {
 /// One backup. Gives the evaluations made, and whether value and pick are as before.
 fn back_up(
     problem: &Problem,
+    tolerance: u32,
     tables: &mut OwnedTables,
     ties: &mut Ties,
     state: usize,
@@ -113,15 +114,36 @@ fn back_up(
     let same = |row| problem.row_value(row, &tables.values) == best;
     ties.kept += u64::from(pick == before && before < NO_PICK && earlier.into_iter().any(same));
     tables.picks[state] = pick;
-    let rises = i64::from(best) - i64::from(tables.values[state]) >= i64::from(problem.tolerance);
+    let rises = i64::from(best) - i64::from(tables.values[state]) >= i64::from(tolerance);
     if rises {
         tables.values[state] = best;
     }
     (evaluations, !rises && pick == before)
 }
 
-/// The run as the papers tell it.
-pub fn plain_run(
+/// One round. Gives the list of its walk, the evaluations made, and whether it was quiet.
+fn round(
+    problem: &Problem,
+    tolerance: u32,
+    tables: &mut OwnedTables,
+    ties: &mut Ties,
+) -> (Vec<usize>, u64, bool) {
+    let (mut marks, mut list) = ([false; MAX_STATES], Vec::new());
+    visit(problem, &tables.picks, problem.start, &mut marks, &mut list);
+    tables.walk.fill(GIVE_UP);
+    let (mut evaluations, mut quiet) = (0, true);
+    for (at, &state) in list.iter().enumerate() {
+        tables.walk[at] = state as u16;
+        let (made, same) = back_up(problem, tolerance, tables, ties, state);
+        evaluations += made;
+        quiet &= same;
+    }
+    (list, evaluations, quiet)
+}
+
+/// The run of a kind as the papers tell it.
+pub fn told_run(
+    kind: Kind,
     problem: &Problem,
     budget: u64,
     tables: &mut OwnedTables,
@@ -133,19 +155,15 @@ pub fn plain_run(
     let rows = 0..problem.rows.len();
     tables.remembered = rows.map(|row| problem.row_value(row, &problem.estimates)).collect();
     tables.walk = vec![GIVE_UP; states];
+    let (mut tolerance, mut goes_on) = (problem.tolerance, kind == Kind::Finishing);
     let mut evaluations = 0;
     for rounds in 1..=budget {
-        let (mut marks, mut list) = ([false; MAX_STATES], Vec::new());
-        visit(problem, &tables.picks, problem.start, &mut marks, &mut list);
-        tables.walk = vec![GIVE_UP; states];
-        let mut quiet = true;
-        for (at, &state) in list.iter().enumerate() {
-            tables.walk[at] = state as u16;
-            let (made, same) = back_up(problem, tables, ties, state);
-            evaluations += made;
-            quiet &= same;
-        }
-        if quiet {
+        let (list, made, quiet) = round(problem, tolerance, tables, ties);
+        evaluations += made;
+        if quiet && goes_on {
+            // "A finishing run goes on, after the quiet round that would end it, with tolerance 1"
+            (tolerance, goes_on) = (FINISHING_TOLERANCE, false);
+        } else if quiet {
             let cost = |&state: &usize| match tables.picks[state] {
                 GIVE_UP => problem.give_up_cost,
                 row => problem.rows[usize::from(row)].cost,
@@ -163,15 +181,19 @@ mod tests {
     use crate::extremes::at_limits;
     use crate::made::made;
     use crate::random::Random;
-    use crate::solver::solve;
+    use crate::solver::{run, KINDS};
     use crate::totals::FOURTHS;
 
-    /// Runs both at a budget and holds answers and tables against each other.
+    /// Makes runs of both kinds at a budget, each in both ways, and holds answers and tables against each
+    /// other.
     fn compare(problem: &Problem, budget: u64) {
-        let (mut tuned, mut plain) = (OwnedTables::new(problem), OwnedTables::new(problem));
-        let answer = solve(problem, budget, tuned.lend()).answer;
-        assert_eq!(answer, plain_run(problem, budget, &mut plain, &mut Ties::default()));
-        assert_eq!(tuned, plain);
+        for kind in KINDS {
+            let (mut tuned, mut plain) = (OwnedTables::new(problem), OwnedTables::new(problem));
+            let answer = run(kind, problem, budget, tuned.lend()).answer;
+            let told = told_run(kind, problem, budget, &mut plain, &mut Ties::default());
+            assert_eq!(answer, told, "{kind:?}");
+            assert_eq!(tuned, plain, "{kind:?}");
+        }
     }
 
     #[test]

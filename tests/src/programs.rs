@@ -1,6 +1,7 @@
 //! Runs the product's programs as programs: in a folder of their own, with names and a standard
 //! input, keeping what they say on both outputs.
 
+use crate::solver::Kind;
 use std::ffi::OsStr;
 use std::io::Write;
 use std::path::{Path, PathBuf};
@@ -23,6 +24,18 @@ impl Said {
     /// An output, and no message.
     pub fn only(output: impl Into<String>) -> Said {
         Said { output: output.into(), messages: String::new() }
+    }
+}
+
+/// What `plan` says where it is told other names than it wants.
+pub const PLAN_USAGE: &str =
+    "plan: give no names, or two: VALUES PICKS, after --finish where the run shall finish\n";
+
+/// The words that ask `plan` for a run of a kind, before any names.
+pub fn kind_words(kind: Kind) -> &'static [&'static str] {
+    match kind {
+        Kind::Plain => &[],
+        Kind::Finishing => &["--finish"],
     }
 }
 

@@ -1,4 +1,5 @@
-//! The rounds of document 01 over a decoded problem, with the caller's tables.
+//! The rounds of document 01 over a decoded problem, with the caller's tables; and E8's run, which goes
+//! on to the tick.
 
 use crate::limits::*;
 use crate::problem::{refused, Problem, Refusal};
@@ -28,12 +29,35 @@ pub struct Run {
     pub full_count: u64,
 }
 
-/// Reads a file and runs the rounds on it: questions 1 to 11, then 12 and 13, then the work.
+/// The kinds of runs: since E8 there are two, and "The plain run remains available."
+#[derive(Clone, Copy, Debug, PartialEq, Eq)]
+pub enum Kind {
+    /// Rounds with the file's tolerance until one is quiet.
+    Plain,
+    /// "A finishing run goes on, after the quiet round that would end it, with tolerance 1 until the next
+    /// quiet round."
+    Finishing,
+}
+
+/// Both kinds.
+pub const KINDS: [Kind; 2] = [Kind::Plain, Kind::Finishing];
+
+/// Reads a file and makes the plain run on it.
 pub fn solve_file(file: &[u8], budget: u64, tables: Tables) -> Run {
+    run_file(Kind::Plain, file, budget, tables)
+}
+
+/// Reads a file and runs the rounds on it: questions 1 to 11, then 12 and 13, then the work.
+pub fn run_file(kind: Kind, file: &[u8], budget: u64, tables: Tables) -> Run {
     match Problem::read(file) {
-        Ok(problem) => solve(&problem, budget, tables),
+        Ok(problem) => run(kind, &problem, budget, tables),
         Err(refusal) => Run { answer: Answer::Refused(refusal), full_count: 0 },
     }
+}
+
+/// Makes the plain run on a problem.
+pub fn solve(problem: &Problem, budget: u64, tables: Tables) -> Run {
+    run(Kind::Plain, problem, budget, tables)
 }
 
 /// Runs the rounds on a problem: questions 12 and 13, then the work.
@@ -41,10 +65,10 @@ pub fn solve_file(file: &[u8], budget: u64, tables: Tables) -> Run {
 /// Question 14 is never met: a row value is at most 65,535,000 + 400,000,000 ticks, since no value
 /// is above 1000 × D, and that fits in 32 bits.
 #[inline(never)]
-pub fn solve(problem: &Problem, budget: u64, tables: Tables) -> Run {
+pub fn run(kind: Kind, problem: &Problem, budget: u64, tables: Tables) -> Run {
     match ask(problem, budget, &tables) {
         Some(refusal) => Run { answer: Answer::Refused(refusal), full_count: 0 },
-        None => by_total!(problem.total, W => Machine::<W>::new(problem, tables).run(budget)),
+        None => by_total!(problem.total, W => Machine::<W>::new(problem, tables).run(kind, budget)),
     }
 }
 
@@ -82,6 +106,9 @@ struct Machine<'a, const W: u32> {
     walk: &'a mut [u16],
     marks: Vec<bool>,
     way: Vec<Frame>,
+    /// The length of the last walk list.
+    listed: usize,
+    rounds: u64,
     evaluations: u64,
     full_count: u64,
 }
@@ -99,6 +126,8 @@ impl<'a, const W: u32> Machine<'a, W> {
             walk: &mut tables.walk[..states],
             marks: vec![false; states],
             way: Vec::with_capacity(states),
+            listed: 0,
+            rounds: 0,
             evaluations: 0,
             full_count: 0,
         };
@@ -109,23 +138,34 @@ impl<'a, const W: u32> Machine<'a, W> {
         machine
     }
 
-    /// Rounds until one is quiet, or the budget is reached first.
-    fn run(mut self, budget: u64) -> Run {
-        let mut listed = 0;
-        let mut rounds = 0;
-        let mut quiet = false;
-        while rounds < budget && !quiet {
-            listed = self.walk();
-            quiet = self.back_up_list(listed);
-            rounds += 1;
-        }
-        self.walk[listed..].fill(GIVE_UP);
-        let evaluations = self.evaluations;
-        let answer = match quiet {
-            true => Answer::Solved { rounds, evaluations, least_cost: self.least_cost(listed) },
+    /// The parts of a run, one after the other. E8: "Its counts run through both parts." So does its
+    /// budget: where it is reached in either part there is no further one, and the run is spent.
+    fn run(mut self, kind: Kind, budget: u64) -> Run {
+        let tolerances = [self.problem.tolerance, FINISHING_TOLERANCE];
+        let parts = match kind {
+            Kind::Plain => &tolerances[..1],
+            Kind::Finishing => &tolerances[..],
+        };
+        let solved = parts.iter().all(|&tolerance| self.run_part(tolerance, budget));
+        self.walk[self.listed..].fill(GIVE_UP);
+        let (rounds, evaluations) = (self.rounds, self.evaluations);
+        let answer = match solved {
+            true => Answer::Solved { rounds, evaluations, least_cost: self.least_cost() },
             false => Answer::Spent { rounds, evaluations },
         };
         Run { answer, full_count: self.full_count }
+    }
+
+    /// Rounds with a tolerance until one is quiet, or the budget is reached first. Says whether one was
+    /// quiet.
+    fn run_part(&mut self, tolerance: u32, budget: u64) -> bool {
+        let mut quiet = false;
+        while self.rounds < budget && !quiet {
+            self.listed = self.walk();
+            quiet = self.back_up_list(tolerance);
+            self.rounds += 1;
+        }
+        quiet
     }
 
     /// "Walk from the start with the picks as they are. Visiting marks the state. Under a picked
@@ -171,10 +211,10 @@ impl<'a, const W: u32> Machine<'a, W> {
 
     /// "Back up the listed states in list order; later ones see earlier changes." Says whether the
     /// round was quiet: no rise, and each pick the one before.
-    fn back_up_list(&mut self, listed: usize) -> bool {
+    fn back_up_list(&mut self, tolerance: u32) -> bool {
         let mut quiet = true;
-        for at in 0..listed {
-            quiet &= self.back_up(usize::from(self.walk[at]));
+        for at in 0..self.listed {
+            quiet &= self.back_up(usize::from(self.walk[at]), tolerance);
         }
         quiet
     }
@@ -185,7 +225,7 @@ impl<'a, const W: u32> Machine<'a, W> {
     ///
     /// The row picked before either became best or costs more than what is best, once it was taken,
     /// so it is skipped when its turn in row order comes.
-    fn back_up(&mut self, state: usize) -> bool {
+    fn back_up(&mut self, state: usize, tolerance: u32) -> bool {
         let rows = self.problem.states[state].rows();
         let before = self.picks[state];
         let mut choice = Choice { best: self.problem.give_up_cost, pick: GIVE_UP };
@@ -197,7 +237,7 @@ impl<'a, const W: u32> Machine<'a, W> {
             self.consider(row, &mut choice);
         }
         self.picks[state] = choice.pick;
-        let rises = choice.best >= self.values[state] + self.problem.tolerance;
+        let rises = choice.best >= self.values[state] + tolerance;
         if rises {
             self.values[state] = choice.best;
         }
@@ -233,8 +273,8 @@ impl<'a, const W: u32> Machine<'a, W> {
 
     /// "C is the least of 1000 × c or 1000 × D over the picks at reached states that aren't goals."
     /// In a solved run those are the states of the last walk.
-    fn least_cost(&self, listed: usize) -> u32 {
-        let costs = self.walk[..listed].iter().map(|&state| {
+    fn least_cost(&self) -> u32 {
+        let costs = self.walk[..self.listed].iter().map(|&state| {
             let pick = self.picks[usize::from(state)];
             self.problem
                 .rows

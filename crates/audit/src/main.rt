@@ -37,7 +37,7 @@ fn audit_named() {
 
 fn main() {
     let count = os::arg_count();
-    if count == 4 && are_names(count) {
+    if count == 4 && are_names(1, count) {
         audit_named();
         return;
     }

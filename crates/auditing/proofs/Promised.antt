@@ -17,7 +17,8 @@ use Rattle.guarantee.specs.Excess.{audit-excess}
 
 pub audit-promises : (f values picks : List ℕ) (r : AuditAnswer) → auditedOf r ≡ audit f values picks
     → (auditCarries r ≡ auditedCarries (audit f values picks))
-    × ((auditCarries r .said ≡ Said.accepted → Close (problemOf f) (byState values) (byState picks) (auditCarries r .counts .least))
+    × ((auditCarries r .said ≡ Said.accepted
+    → Close (problemOf f) (problemOf f .tolerance) (byState values) (byState picks) (auditCarries r .counts .least))
     × (auditCarries r .said ≡ Said.refused
     → ExcessFits (problemOf f .tolerance) (auditCarries r .question) (auditCarries r .excess)))
 audit-promises f values picks (Accepted least) e =

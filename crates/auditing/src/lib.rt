@@ -60,7 +60,8 @@ pub fn audit(file: &[u8], values: &[u32], picks: &[u16]) -> AuditAnswer
     ensures close { λ r.
         ⌜ (auditCarries r .said ≡ Said.accepted
         → Close
-        (problemOf (now (file .entry))) (byState (now (values .entry))) (byState (now (picks .entry))) (auditCarries r .counts .least)) ⌝ }
+        (problemOf (now (file .entry))) (problemOf (now (file .entry)) .tolerance) (byState (now (values .entry)))
+        (byState (now (picks .entry))) (auditCarries r .counts .least)) ⌝ }
     ensures excess { λ r.
         ⌜ (auditCarries r .said ≡ Said.refused
         → ExcessFits (problemOf (now (file .entry)) .tolerance) (auditCarries r .question) (auditCarries r .excess)) ⌝ }

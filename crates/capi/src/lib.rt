@@ -4,6 +4,7 @@ pub mod shift;
 use model::AuditAnswer;
 use model::Counts;
 use model::FileAnswer;
+use model::Kind;
 use model::SolveAnswer;
 use model::WriteAnswer;
 ghost use mathlib.Core.Path.{_≡_};
@@ -13,11 +14,12 @@ ghost use lib.ListN.{length};
 ghost use Rattle.model.specs.Answers.{verdictCarries, auditedCarries};
 ghost use Rattle.model.specs.Audit.{audit};
 ghost use Rattle.model.specs.Buffers.{copied};
-ghost use Rattle.model.specs.Interface.{Hands, handing, plainNumbers, signedNumbers, nothing, solutionHanded, writingHanded};
+ghost use Rattle.model.specs.Interface.{Hands, HandsSolution, handing, plainNumbers, signedNumbers, nothing, writingHanded};
 ghost use Rattle.model.specs.Lookup.{rowsOf};
 ghost use Rattle.model.specs.Questions.{fileQuestions};
 ghost use Rattle.model.specs.SetForm.{exchange};
-ghost use Rattle.model.specs.Solution.{tables, solution};
+ghost use Rattle.model.specs.Solution.{tables};
+ghost use Rattle.model.specs.declared.Kind.the-variants.{Plain, Finishing};
 
 // Writes three numbers to the front of a table that has room for them.
 fn put3(answer: &mut [u64], a: u64, b: u64, c: u64)
@@ -92,10 +94,9 @@ fn put_counts(answer: &mut [u64], counts: Counts)
     );
 }
 
-// 1 solved, with answer rounds, evaluations, C; 2 spent, with rounds, evaluations, 0; 0 refused, with question, place, 0; 4 where
-// `answer` has fewer than 3 entries, and then nothing is done.
-#[no_mangle]
-pub extern "C" fn cuulipso_solve(
+// Solves a file by a run of some kind, and hands over what it answers.
+fn hand_over(
+    kind: Kind,
     file: &[u8],
     budget: u64,
     values: &mut [u32],
@@ -105,11 +106,8 @@ pub extern "C" fn cuulipso_solve(
     answer: &mut [u64],
 ) -> u8
     ensures { λ r.
-        ⌜ Hands
-        (solutionHanded
-        (solution
-        (now (file .entry)) budget
-        (tables (now (values .entry)) (now (picks .entry)) (now (remembered .entry)) (now (walk .entry)))))
+        ⌜ HandsSolution
+        kind (now (file .entry)) budget
         (tables (now (values .entry)) (now (picks .entry)) (now (remembered .entry)) (now (walk .entry)))
         (tables (now (values .exit)) (now (picks .exit)) (now (remembered .exit)) (now (walk .exit)))
         (now (answer .entry)) (now (answer .exit)) r ⌝ }
@@ -117,7 +115,7 @@ pub extern "C" fn cuulipso_solve(
     if answer.len() < 3 {
         return 4;
     }
-    let said = solving::solve::solve(file, budget, values, picks, remembered, walk);
+    let said = solving::solve::solve(kind, file, budget, values, picks, remembered, walk);
     match said {
         SolveAnswer::Solved { counts } => {
             put_counts(answer, counts);
@@ -132,6 +130,67 @@ pub extern "C" fn cuulipso_solve(
             0
         }
     }
+}
+
+// 1 solved, with answer rounds, evaluations, C; 2 spent, with rounds, evaluations, 0; 0 refused, with question, place, 0; 4 where
+// `answer` has fewer than 3 entries, and then nothing is done.
+#[no_mangle]
+pub extern "C" fn cuulipso_solve(
+    file: &[u8],
+    budget: u64,
+    values: &mut [u32],
+    picks: &mut [u16],
+    remembered: &mut [u32],
+    walk: &mut [u16],
+    answer: &mut [u64],
+) -> u8
+    ensures { λ r.
+        ⌜ HandsSolution
+        Plain (now (file .entry)) budget
+        (tables (now (values .entry)) (now (picks .entry)) (now (remembered .entry)) (now (walk .entry)))
+        (tables (now (values .exit)) (now (picks .exit)) (now (remembered .exit)) (now (walk .exit)))
+        (now (answer .entry)) (now (answer .exit)) r ⌝ }
+{
+    hand_over(
+        Kind::Plain,
+        file,
+        budget,
+        values,
+        picks,
+        remembered,
+        walk,
+        answer,
+    )
+}
+
+// The same of a finishing run (E8): one budget over both of its parts.
+#[no_mangle]
+pub extern "C" fn cuulipso_finish(
+    file: &[u8],
+    budget: u64,
+    values: &mut [u32],
+    picks: &mut [u16],
+    remembered: &mut [u32],
+    walk: &mut [u16],
+    answer: &mut [u64],
+) -> u8
+    ensures { λ r.
+        ⌜ HandsSolution
+        Finishing (now (file .entry)) budget
+        (tables (now (values .entry)) (now (picks .entry)) (now (remembered .entry)) (now (walk .entry)))
+        (tables (now (values .exit)) (now (picks .exit)) (now (remembered .exit)) (now (walk .exit)))
+        (now (answer .entry)) (now (answer .exit)) r ⌝ }
+{
+    hand_over(
+        Kind::Finishing,
+        file,
+        budget,
+        values,
+        picks,
+        remembered,
+        walk,
+        answer,
+    )
 }
 
 // Writes three signed numbers to the front of a table that has room for them.

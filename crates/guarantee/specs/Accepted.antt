@@ -41,9 +41,22 @@ pub record AcceptsWithin (p : Problem) (e : ℕ) (v picks : ℕ → ℕ) (C : �
 abbrev pub Accepts : Problem → (ℕ → ℕ) → (ℕ → ℕ) → ℕ → Type 0
 Accepts p v picks C = AcceptsWithin p (p .tolerance) v picks C
 
+-- and so under every larger one
+pub accepts-wider
+    : (p : Problem) (v picks : ℕ → ℕ) (C e d : ℕ) → e ≤ d → AcceptsWithin p e v picks C → AcceptsWithin p d v picks C
+accepts-wider p v picks C e d wider facts =
+    record {
+      goal-zero = facts .goal-zero;
+      value-high = facts .value-high;
+      no-undercut = facts .no-undercut;
+      pick-fits = facts .pick-fits;
+      pick-close = λ s l goal marked. omega (arith, facts .pick-close s l goal marked);
+      least = facts .least;
+    }
+
 -- goals included, V is at most 1000 × D
 pub accepted-high
-    : (p : Problem) (v picks : ℕ → ℕ) (C : ℕ) → Accepts p v picks C → (s : ℕ) → s < p .states → v s ≤ giveUpCost p
+    : (p : Problem) (v picks : ℕ → ℕ) (C : ℕ) {e : ℕ} → AcceptsWithin p e v picks C → (s : ℕ) → s < p .states → v s ≤ giveUpCost p
 accepted-high p v picks C facts s l = step (p .goal s) refl
   where
     step : (b : Bool) → p .goal s ≡ b → v s ≤ giveUpCost p

@@ -1,13 +1,15 @@
--- How large the rise allowance A and the number n of open states can get, by the limits of a file: so (A + 1) × (n + 1) rounds are never
--- more than a budget may be. Each state adds at most the largest penalty in ticks to A and at most 1 to n.
-use Prim.Native.Nat.{ℕ, zero, suc, _+_, _-_, _*_, _/_, _≤_}
+-- How large the rise allowance A, with any tolerance, and the number n of open states can get, by the limits of a file: so (A + 1) × (n + 1)
+-- rounds, and one more, are never more than a budget may be. Each state adds at most the largest penalty in ticks to A and at most 1 to n.
+use Prim.Native.Nat.{ℕ, zero, suc, _+_, _-_, _*_, _/_, _≤_, _<_}
 use native.Mathlib.Nat.{div-le-self, mul-le-mul}
 use native.Mathlib.Omega.{arith}
 use mathlib.Core.Bool.{Bool, true, false}
 use Rattle.model.specs.Limits.{maxStates, maxPenalty, ticksPerSecond, maxBudget}
 use Rattle.model.specs.Problem.{Problem, giveUpCost}
 use Rattle.model.specs.Cover.{allowanceOn, allowanceTo, allowance, openTo}
-use Rattle.model.specs.Promises.{roundsEnough}
+use Rattle.model.specs.Promises.{roundBound, roundsEnough}
+use Rattle.model.specs.declared.Kind.{Kind}
+use Rattle.model.specs.declared.Kind.the-variants.{Plain, Finishing}
 use Rattle.guarantee.specs.WellFormed.{WellFormed}
 
 allowance-on : (b : Bool) (a limit : ℕ) → a ≤ limit → allowanceOn b a ≤ limit
@@ -28,21 +30,26 @@ module _ (p : Problem) where
   open-to (suc k) = omega (arith, open-to k, allowance-on (p .goal k) 1 1 (omega arith))
 
 module _ (p : Problem) (formed : WellFormed p) where
-  pub allowance-high : allowance p ≤ maxStates * (ticksPerSecond * maxPenalty)
+  pub allowance-high : (e : ℕ) → allowance p e ≤ maxStates * (ticksPerSecond * maxPenalty)
   unfolding allowance
-  allowance-high =
+  allowance-high e =
       omega (
         arith,
-        allowance-to p (p .tolerance) (p .states),
+        allowance-to p e (p .states),
         mul-le-mul {n₁ = p .states} {m₁ = p .penalty} (formed .states-high) (formed .penalty-high),
       )
 
   pub open-high : openTo p (p .states) ≤ maxStates
   open-high = omega (arith, open-to p (p .states), formed .states-high)
 
-  -- "Is the budget at most 2,000,000,000,000,000? 13"
-  pub rounds-enough-fit : roundsEnough p ≤ maxBudget
-  rounds-enough-fit =
-      let a : allowance p + 1 ≤ maxStates * (ticksPerSecond * maxPenalty) + 1 = omega (arith, allowance-high) in
+  -- "Is the budget at most 2,000,000,000,000,000? 13": with room for one round more
+  bound-fits : (e : ℕ) → roundBound p e < maxBudget
+  unfolding roundBound
+  bound-fits e =
+      let a : allowance p e + 1 ≤ maxStates * (ticksPerSecond * maxPenalty) + 1 = omega (arith, allowance-high e) in
       let n : openTo p (p .states) + 1 ≤ maxStates + 1 = omega (arith, open-high) in
       omega (arith, mul-le-mul a n)
+
+  pub rounds-enough-fit : (kind : Kind) → roundsEnough kind p ≤ maxBudget
+  rounds-enough-fit Plain = omega (arith, bound-fits (p .tolerance))
+  rounds-enough-fit Finishing = omega (arith, bound-fits 1)

@@ -1,7 +1,7 @@
 -- Backups along a list, rounds and runs: the three kinds of backup, what a property kept by each backup gives, and what stays.
 -- By induction on the list and on the budget.
 use mathlib.Core.Path.{_≡_, refl, sym, _∙_}
-use Prim.Native.Nat.{ℕ, zero, suc, _+_, _≤_, _<_}
+use Prim.Native.Nat.{ℕ, zero, suc, _+_, _-_, _≤_, _<_}
 use native.Mathlib.Omega.{arith}
 use mathlib.Core.Bool.{Bool, true, false, or-true, or-false}
 use mathlib.Core.List.{List, [], _∷_}
@@ -13,7 +13,9 @@ use Rattle.model.specs.Problem.{Problem}
 use Rattle.model.specs.Value.{byState}
 use Rattle.model.specs.Walk.{In, here, there, walk}
 use Rattle.model.specs.Rounds.{Machine, Found, scanOf, raiseOn, rises, settle, backup}
-use Rattle.model.specs.Rounds.{backups, walked, round, Ending, solved, spent, runFrom}
+use Rattle.model.specs.Rounds.{backups, walked, round, Ending, solved, spent, runFrom, machineStart, goesOn, runOf}
+use Rattle.model.specs.declared.Kind.{Kind}
+use Rattle.model.specs.declared.Kind.the-variants.{Plain, Finishing}
 use Rattle.guarantee.specs.WellFormed.{WellFormed}
 use Rattle.guarantee.specs.Walks.{listed-state, listed-open}
 use Rattle.guarantee.specs.Sound.{Sound, backup-sound}
@@ -43,7 +45,7 @@ abbrev pub machineOf : Ending → Machine
 machineOf (solved n m) = m
 machineOf (spent n m) = m
 
-spent-not-solved : {n k : ℕ} {m m′ : Machine} → spent n m ≡ solved k m′ → ⊥
+pub spent-not-solved : {n k : ℕ} {m m′ : Machine} → spent n m ≡ solved k m′ → ⊥
 spent-not-solved q = let z : _≡_ {A = ℕ} 0 1 = cc in omega arith
 
 pub backed : (p : Problem) (e s : ℕ) (m : Machine) → Backed p e s m
@@ -146,6 +148,49 @@ run-spent p e (suc budget) n m k m′ q = go (round p e m .moved) q (run-spent p
         → (runFrom p e budget true (suc n) (round p e m) ≡ spent k m′ → k ≡ suc n + budget) → k ≡ n + suc budget
     go true q ih = omega (arith, ih q)
     go false q ih = absurd (spent-not-solved (sym q ∙ run-stops p e budget (suc n) (round p e m)))
+
+-- and no run does more
+run-rounds : (p : Problem) (e budget : ℕ) (going : Bool) (n : ℕ) (m : Machine) → roundsOf (runFrom p e budget going n m) ≤ n + budget
+unfolding runFrom
+run-rounds p e zero true n m = omega arith
+run-rounds p e zero false n m = omega arith
+run-rounds p e (suc budget) false n m = omega arith
+run-rounds p e (suc budget) true n m = omega (arith, run-rounds p e budget (round p e m .moved) (suc n) (round p e m))
+
+-- The run of a problem of either kind: what every round keeps, with whatever tolerance, holds of its ending
+module _ (p : Problem) (Inv : ℕ → Machine → Type 0) (kept : (e n : ℕ) (m : Machine) → Inv n m → Inv (suc n) (round p e m)) where
+  goes-on-keeps
+      : (kind : Kind) (budget : ℕ) (end : Ending) → Inv (roundsOf end) (machineOf end)
+      → Inv (roundsOf (goesOn kind p budget end)) (machineOf (goesOn kind p budget end))
+  unfolding goesOn
+  goes-on-keeps Plain budget end h = h
+  goes-on-keeps Finishing budget (spent n m) h = h
+  goes-on-keeps Finishing budget (solved n m) h = run-keeps p 1 Inv (kept 1) (budget - n) true n m h
+
+  pub whole-run-keeps
+      : (kind : Kind) (budget : ℕ) (values picks remembered : List ℕ) → Inv 0 (machineStart p values picks remembered)
+      → Inv (roundsOf (runOf kind p budget values picks remembered)) (machineOf (runOf kind p budget values picks remembered))
+  whole-run-keeps kind budget values picks remembered h =
+      let e = p .tolerance in goes-on-keeps kind budget _ (run-keeps p e Inv (kept e) budget true 0 _ h)
+
+-- and where it is spent it has done every round of its budget
+pub whole-run-spent
+    : (kind : Kind) (p : Problem) (budget : ℕ) (values picks remembered : List ℕ) (k : ℕ) (m′ : Machine)
+    → runOf kind p budget values picks remembered ≡ spent k m′ → k ≡ budget
+unfolding goesOn
+whole-run-spent kind p budget values picks remembered k m′ q = go kind (runFrom p e budget true 0 start) refl q
+  where
+    e : ℕ
+    e = p .tolerance
+
+    start : Machine
+    start = machineStart p values picks remembered
+
+    go : (kind : Kind) (end : Ending) → runFrom p e budget true 0 start ≡ end → goesOn kind p budget end ≡ spent k m′ → k ≡ budget
+    go Plain end run q = omega (arith, run-spent p e budget 0 start k m′ (run ∙ q))
+    go Finishing (spent n m) run q = omega (arith, run-spent p e budget 0 start k m′ (run ∙ q))
+    go Finishing (solved n m) run q =
+        let few : n ≤ 0 + budget = rw run at (run-rounds p e budget true 0 start) in omega (arith, run-spent p 1 (budget - n) n m k m′ q)
 
 -- rounds keep a machine sound
 module _ (p : Problem) (formed : WellFormed p) (e : ℕ) where

@@ -13,11 +13,12 @@ use Rattle.model.specs.Value.{rowValue, byState}
 use Rattle.model.specs.Sections.{problemOf}
 use Rattle.model.specs.Rounds.{Found, Machine, Ending, beats, evaluateOn, skipped, considerOn, consider, scanStart, scanOf}
 use Rattle.model.specs.Rounds.{raiseOn, rises, settle, backup, walked, fillTo, machineStart, runOf, listTable}
+use Rattle.model.specs.declared.Kind.{Kind}
 use Rattle.model.specs.Solution.{fine, Tables, tablesOf, solutionOf, solution}
 use Rattle.guarantee.specs.WellFormed.{WellFormed, well-formed}
 use Rattle.guarantee.specs.Walks.{own-row, listed-number}
 use Rattle.guarantee.specs.Traversals.{traverse-keeps}
-use Rattle.guarantee.specs.Backups.{Open, machineOf, round-keeps, run-keeps}
+use Rattle.guarantee.specs.Backups.{Open, machineOf, round-keeps, whole-run-keeps}
 use Rattle.guarantee.specs.Solutions.{runWith, Told, turned-down, ran, told}
 
 -- four tables hold beyond the states and rows of a problem what four others hold there
@@ -108,11 +109,10 @@ module _ (p : Problem) (formed : WellFormed p) (t : Tables) where
         list-short = omega arith;
       }
 
-  run-beyond : (budget : ℕ) → Keeps p t (machineOf (runOf p budget (t .values) (t .picks) (t .remembered)))
-  run-beyond budget =
-      let e = p .tolerance in
-      run-keeps p e (λ n. Keeps p t) (λ n m h. round-keeps p e (Keeps p t) (backup-keeps e) formed m (walked-keeps m h)) budget true 0 _
-      start-keeps
+  run-beyond : (kind : Kind) (budget : ℕ) → Keeps p t (machineOf (runOf kind p budget (t .values) (t .picks) (t .remembered)))
+  run-beyond kind budget =
+      whole-run-keeps p (λ n. Keeps p t) (λ e n m h. round-keeps p e (Keeps p t) (backup-keeps e) formed m (walked-keeps m h)) kind budget
+      (t .values) (t .picks) (t .remembered) start-keeps
 
   left-beyond : (m : Machine) → Keeps p t m → Beyond p t (tablesOf p (t .walk-list) m)
   left-beyond m h =
@@ -123,9 +123,9 @@ module _ (p : Problem) (formed : WellFormed p) (t : Tables) where
         walk-list = list-drop (p .states) (m .list) (t .walk-list) (h .list-short);
       }
 
-pub solution-beyond : (f : List ℕ) (budget : ℕ) (t : Tables) → Beyond (problemOf f) t (solution f budget t .tables)
+pub solution-beyond : (kind : Kind) (f : List ℕ) (budget : ℕ) (t : Tables) → Beyond (problemOf f) t (solution kind f budget t .tables)
 unfolding solutionOf
-solution-beyond f budget t = go (told f budget t)
+solution-beyond kind f budget t = go (told kind f budget t)
   where
     same : {t′ : Tables} → t′ ≡ t → Beyond (problemOf f) t t′
     same e = rw e (record { values = refl; picks = refl; remembered = refl; walk-list = refl })
@@ -135,6 +135,7 @@ solution-beyond f budget t = go (told f budget t)
     on formed (Ending.solved n m) h = left-beyond (problemOf f) formed t m h
     on formed (Ending.spent n m) h = left-beyond (problemOf f) formed t m h
 
-    go : Told f budget t → Beyond (problemOf f) t (solution f budget t .tables)
+    go : Told kind f budget t → Beyond (problemOf f) t (solution kind f budget t .tables)
     go (turned-down q i failed is) = same (ap (λ s. s .tables) is)
-    go (ran file lent is) = rw is (on (well-formed f file) (runWith f budget t) (run-beyond (problemOf f) (well-formed f file) t budget))
+    go (ran file lent is) =
+        rw is (on (well-formed f file) (runWith kind f budget t) (run-beyond (problemOf f) (well-formed f file) t kind budget))

@@ -1,7 +1,7 @@
 -- Question 14 is never answered no: in a sound machine the checked scan, backup, round and run are those of Rounds.antt.
 -- Every row value fits while the machine is sound, and every backup keeps it sound; by induction on list and budget.
 use mathlib.Core.Path.{_≡_, refl}
-use Prim.Native.Nat.{ℕ, zero, suc, _<_}
+use Prim.Native.Nat.{ℕ, zero, suc, _-_, _<_}
 use mathlib.Core.Bool.{Bool, true, false}
 use mathlib.Core.List.{List, [], _∷_}
 use lib.ListN.{getD}
@@ -10,14 +10,16 @@ use Rattle.model.specs.Problem.{Problem}
 use Rattle.model.specs.Value.{byState}
 use Rattle.model.specs.Walk.{In, here, there, walk}
 use Rattle.model.specs.Rounds.{Found, Machine, skipped, considerOn, consider, scanStart, scanOf}
-use Rattle.model.specs.Rounds.{backup, backups, walked, round, runFrom}
+use Rattle.model.specs.Rounds.{backup, backups, walked, round, Ending, solved, spent, runFrom, machineStart, goesOn, runOf}
+use Rattle.model.specs.declared.Kind.{Kind}
+use Rattle.model.specs.declared.Kind.the-variants.{Plain, Finishing}
 use Rattle.model.specs.Solution.{fine, checkedEvaluate, checkedConsiderOn, checkedConsider}
-use Rattle.model.specs.Solution.{checkedScan, checkedBackup, checkedBackups, checkedRound, checkedRunFrom}
+use Rattle.model.specs.Solution.{checkedScan, checkedBackup, checkedBackups, checkedRound, checkedRunFrom, checkedGoesOn, checkedRunOf}
 use Rattle.guarantee.specs.WellFormed.{WellFormed}
 use Rattle.guarantee.specs.Walks.{own-row}
 use Rattle.guarantee.specs.Traversals.{both-keep}
 use Rattle.guarantee.specs.Sound.{Sound, evaluation-fits, backup-sound}
-use Rattle.guarantee.specs.Backups.{Open, walk-opens, walked-sound, round-sound}
+use Rattle.guarantee.specs.Backups.{Open, machineOf, walk-opens, walked-sound, round-sound, run-keeps}
 
 module _ (p : Problem) (formed : WellFormed p) where
   -- the rows of one backup
@@ -55,8 +57,7 @@ module _ (p : Problem) (formed : WellFormed p) where
       let picks = byState (m .picks) in
       checked-backups e (walk p picks .list) (walked p m) (walk-opens p formed picks) (walked-sound p formed e m sound)
 
-  -- "At an evaluation: does the row value fit in 32 bits?" Always: the run with that check is the run without
-  pub checked-run
+  checked-run
       : (e budget : ℕ) (going : Bool) (n : ℕ) (m : Machine) → Sound p m
       → checkedRunFrom p e budget going n m ≡ fine (runFrom p e budget going n m)
   unfolding checkedRunFrom runFrom
@@ -66,3 +67,22 @@ module _ (p : Problem) (formed : WellFormed p) where
   checked-run e (suc budget) true n m sound =
       rw (checked-round e m sound)
       (checked-run e budget (round p e m .moved) (suc n) (round p e m) (round-sound p formed e m sound))
+
+  checked-goes-on
+      : (kind : Kind) (budget : ℕ) (end : Ending) → Sound p (machineOf end)
+      → checkedGoesOn kind p budget end ≡ fine (goesOn kind p budget end)
+  unfolding checkedGoesOn goesOn
+  checked-goes-on Plain budget end sound = refl
+  checked-goes-on Finishing budget (spent n m) sound = refl
+  checked-goes-on Finishing budget (solved n m) sound = checked-run 1 (budget - n) true n m sound
+
+  -- "At an evaluation: does the row value fit in 32 bits?" Always: the run with that check is the run without
+  pub checked-run-of
+      : (kind : Kind) (budget : ℕ) (values picks remembered : List ℕ) → Sound p (machineStart p values picks remembered)
+      → checkedRunOf kind p budget values picks remembered ≡ fine (runOf kind p budget values picks remembered)
+  checked-run-of kind budget values picks remembered sound =
+      let e = p .tolerance in
+      let start = machineStart p values picks remembered in
+      rw (checked-run e budget true 0 start sound)
+      (checked-goes-on kind budget (runFrom p e budget true 0 start)
+      (run-keeps p e (λ n. Sound p) (λ n. round-sound p formed e) budget true 0 start sound))

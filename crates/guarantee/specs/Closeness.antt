@@ -10,12 +10,12 @@ use mathlib.Core.List.{List, map}
 use mathlib.Core.Logic.{_⊎_, inl, inr}
 use lib.Dec.{eqb}
 use borrow.Author.Tests.{eq-eqb}
-use Rattle.model.specs.Limits.{ticksPerSecond, giveUp}
+use Rattle.model.specs.Limits.{maxTolerance, ticksPerSecond, giveUp}
 use Rattle.model.specs.Problem.{Problem, Outcome, giveUpCost, ownRow}
 use Rattle.model.specs.Value.{rowTicks, rowValue, weightedSum, byState}
 use Rattle.model.specs.Sections.{problemOf}
 use Rattle.model.specs.Walk.{In, here, there, next, Reached, at-start, along, pickCostOn, pickCost}
-use Rattle.model.specs.Audit.{accepted, pickValueOn, pickValue, tableQuestions, audit}
+use Rattle.model.specs.Audit.{accepted, pickValueOn, pickValue, audit}
 use Rattle.model.specs.Cover.{Choice, picks-row, gives-up, picks-nothing, CoversAt, Cover, choiceOn, planOf}
 use Rattle.model.specs.Promises.{Close}
 use Rattle.guarantee.specs.Totals.{total-low}
@@ -24,7 +24,7 @@ use Rattle.guarantee.specs.Rows.{own-low, own-high}
 use Rattle.guarantee.specs.Undercuts.{NoUndercut}
 use Rattle.guarantee.specs.Values.{rowValue-low, rowValue-high}
 use Rattle.guarantee.specs.Walks.{own-row, reached-state, reached-marked, least-low, least-cheapest}
-use Rattle.guarantee.specs.Accepted.{Marked, Accepts, accepted-high, accepts, audit-formed, audit-yes}
+use Rattle.guarantee.specs.Accepted.{Marked, AcceptsWithin, accepted-high, audit-formed, audit-accepts}
 use Rattle.guarantee.specs.Arithmetic.{weightedSum-scale, sum-full, some-small, row-full, row-small, row-close, give-close}
 
 -- The lower half, of any table that is 0 at goals, at most 1000 × D and undercut by no row.
@@ -80,7 +80,8 @@ in-mapped : {os : List Outcome} {o : Outcome} → In o os → In (o .successor) 
 in-mapped here = here
 in-mapped (there i) = there (in-mapped i)
 
-module _ (p : Problem) (formed : WellFormed p) (v picks : ℕ → ℕ) (C : ℕ) (facts : Accepts p v picks C) where
+module _ (p : Problem) (formed : WellFormed p) (v picks : ℕ → ℕ) (C e : ℕ) (some : 1 ≤ e) (few : e ≤ maxTolerance)
+    (facts : AcceptsWithin p e v picks C) where
   marked : (s : ℕ) → Reached p picks s → Marked p picks s
   marked s reached = rw (reached-marked p formed picks s reached)
 
@@ -102,10 +103,10 @@ module _ (p : Problem) (formed : WellFormed p) (v picks : ℕ → ℕ) (C : ℕ)
       let fits = facts .pick-fits (one .state) inner (one .state-open) (marked (one .state) (one .reached)) in
       omega (arith, pick-cost-low (one .state) inner fits, facts .least, one .cost)
 
-  pub above-tolerance : 1 ≤ C - p .tolerance
-  above-tolerance = omega (arith, least-a-second, formed .tolerance-high)
+  above-tolerance : 1 ≤ C - e
+  above-tolerance = omega (arith, least-a-second)
 
-  tolerance-back : C - p .tolerance + p .tolerance ≡ C
+  tolerance-back : C - e + e ≡ C
   tolerance-back = omega (arith, above-tolerance)
 
   -- the cover's demand at a reached state that is no goal
@@ -118,72 +119,66 @@ module _ (p : Problem) (formed : WellFormed p) (v picks : ℕ → ℕ) (C : ℕ)
     unfolding next
     leads own o i = along {t = o .successor} reached (rw (other, own) (in-mapped i))
 
-    row-covers : ownRow p s (picks s) ≡ true → rowValue p v (picks s) ≤ v s + p .tolerance - 1 → C ≤ rowTicks p (picks s)
-        → CoversAt p (C - p .tolerance) (λ t. C * v t) (λ t. C * v t) (Reached p picks) s (picks-row (picks s))
+    row-covers : ownRow p s (picks s) ≡ true → rowValue p v (picks s) ≤ v s + e - 1 → C ≤ rowTicks p (picks s)
+        → CoversAt p (C - e) (λ t. C * v t) (λ t. C * v t) (Reached p picks) s (picks-row (picks s))
     row-covers own near cheap =
         let r = picks s in
         let sum = weightedSum (p .outcomes r) v in
         let bound =
-        row-close (p .total) (C - p .tolerance) (p .tolerance) (rowTicks p r) (v s) (rowValue p v r) sum (rowValue-high p r (total-low formed) v)
-        (omega (arith, formed .tolerance-low)) (omega (arith, tolerance-back)) in
+        row-close (p .total) (C - e) e (rowTicks p r) (v s) (rowValue p v r) sum (rowValue-high p r (total-low formed) v)
+        (omega arith) (omega (arith, tolerance-back)) in
         (own, leads own, rw (weightedSum-scale (p .outcomes r) v C) (rw tolerance-back at bound))
 
-    give-covers : giveUpCost p ≤ v s + p .tolerance - 1 → C ≤ giveUpCost p → (C - p .tolerance) * giveUpCost p ≤ C * v s
+    give-covers : giveUpCost p ≤ v s + e - 1 → C ≤ giveUpCost p → (C - e) * giveUpCost p ≤ C * v s
     give-covers near cheap =
         rw tolerance-back at
-        (give-close (C - p .tolerance) (p .tolerance) (giveUpCost p) (v s) (omega (arith, formed .tolerance-low))
-        (omega (arith, tolerance-back)))
+        (give-close (C - e) e (giveUpCost p) (v s) (omega arith) (omega (arith, tolerance-back)))
 
     choice-covers
-        : (b own : Bool) → eqb (picks s) giveUp ≡ b → ownRow p s (picks s) ≡ own → pickValueOn b p v (picks s) ≤ v s + p .tolerance - 1
+        : (b own : Bool) → eqb (picks s) giveUp ≡ b → ownRow p s (picks s) ≡ own → pickValueOn b p v (picks s) ≤ v s + e - 1
         → C ≤ pickCostOn b p (picks s) → (picks s ≡ giveUp) ⊎ (ownRow p s (picks s) ≡ true)
-        → CoversAt p (C - p .tolerance) (λ t. C * v t) (λ t. C * v t) (Reached p picks) s (choiceOn b own (picks s))
-    choice-covers true own e o near cheap fits = give-covers near cheap
-    choice-covers false true e o near cheap fits = row-covers o near cheap
-    choice-covers false false e o near cheap (inl give) = true≢false (sym (eq-eqb (picks s) giveUp give) ∙ e)
-    choice-covers false false e o near cheap (inr own) = true≢false (sym own ∙ o)
+        → CoversAt p (C - e) (λ t. C * v t) (λ t. C * v t) (Reached p picks) s (choiceOn b own (picks s))
+    choice-covers true own q o near cheap fits = give-covers near cheap
+    choice-covers false true q o near cheap fits = row-covers o near cheap
+    choice-covers false false q o near cheap (inl give) = true≢false (sym (eq-eqb (picks s) giveUp give) ∙ q)
+    choice-covers false false q o near cheap (inr own) = true≢false (sym own ∙ o)
 
-    state-covers : CoversAt p (C - p .tolerance) (λ t. C * v t) (λ t. C * v t) (Reached p picks) s (planOf p picks s)
+    state-covers : CoversAt p (C - e) (λ t. C * v t) (λ t. C * v t) (Reached p picks) s (planOf p picks s)
     unfolding planOf pickValue pickCost
     state-covers =
         choice-covers (eqb (picks s) giveUp) (ownRow p s (picks s)) refl refl (facts .pick-close s inner other (marked s reached))
         (rw (facts .least) (least-low p formed picks s reached other)) (facts .pick-fits s inner other (marked s reached))
 
-  pub accepted-cover : Cover p (C - p .tolerance) (planOf p picks) (λ s. C * v s) (Reached p picks)
+  accepted-cover : Cover p (C - e) (planOf p picks) (λ s. C * v s) (Reached p picks)
   accepted-cover = record { states = reached-state p formed picks; start = at-start; covers = state-covers }
 
--- Demand 3 of tables that the questions 16 to 19 accept, and of the audit.
-
-module _ (p : Problem) (formed : WellFormed p) (v picks : ℕ → ℕ) (C : ℕ) (said : tableQuestions p v picks ≡ accepted C) where
-  pub table-lower : (K : ℕ) → 1 ≤ K → (plan : ℕ → Choice) (u : ℕ → ℕ) (set : ℕ → Type 0) → Cover p K plan u set
+  -- Demand 3 of tables that questions 16 to 19 accept under e
+  accepted-lower : (K : ℕ) → 1 ≤ K → (plan : ℕ → Choice) (u : ℕ → ℕ) (set : ℕ → Type 0) → Cover p K plan u set
       → K * v (p .start) ≤ u (p .start)
-  table-lower K some plan u set cover =
-      let facts = accepts p v picks C said in
-      cover-high p formed v (facts .goal-zero) (accepted-high p v picks C facts) (facts .no-undercut) K some plan u set cover (p .start)
+  accepted-lower K unit plan u set cover =
+      cover-high p formed v (facts .goal-zero) (accepted-high p v picks C facts) (facts .no-undercut) K unit plan u set cover (p .start)
       (cover .start)
 
-  pub table-upper : Cover p (C - p .tolerance) (planOf p picks) (λ s. C * v s) (Reached p picks)
-  table-upper = accepted-cover p formed v picks C (accepts p v picks C said)
-
-  pub table-positive : 1 ≤ C - p .tolerance
-  table-positive = above-tolerance p formed v picks C (accepts p v picks C said)
-
-  pub table-close : Close p v picks C
-  table-close =
+  pub accepted-close : Close p e v picks C
+  accepted-close =
       record {
-        lower = λ K some plan u inside. table-lower K some plan u (λ s. inside s ≡ true);
-        upper = table-upper;
-        positive = table-positive;
+        lower = λ K unit plan u inside. accepted-lower K unit plan u (λ s. inside s ≡ true);
+        upper = accepted-cover;
+        positive = above-tolerance;
       }
 
+-- and of the audit, under the file's own
 module _ (f values picks : List ℕ) (C : ℕ) (said : audit f values picks ≡ accepted C) where
+  formed : WellFormed (problemOf f)
+  formed = audit-formed f values picks C said
+
   pub audit-lower : (K : ℕ) → 1 ≤ K → (plan : ℕ → Choice) (u : ℕ → ℕ) (set : ℕ → Type 0) → Cover (problemOf f) K plan u set
       → K * byState values (problemOf f .start) ≤ u (problemOf f .start)
   audit-lower =
-      table-lower (problemOf f) (audit-formed f values picks C said) (byState values) (byState picks) C
-      (audit-yes f values picks C said .table-accepted)
+      accepted-lower (problemOf f) formed (byState values) (byState picks) C (problemOf f .tolerance) (formed .tolerance-low)
+      (formed .tolerance-high) (audit-accepts f values picks C said)
 
-  pub audit-close : Close (problemOf f) (byState values) (byState picks) C
+  pub audit-close : Close (problemOf f) (problemOf f .tolerance) (byState values) (byState picks) C
   audit-close =
-      table-close (problemOf f) (audit-formed f values picks C said) (byState values) (byState picks) C
-      (audit-yes f values picks C said .table-accepted)
+      accepted-close (problemOf f) formed (byState values) (byState picks) C (problemOf f .tolerance) (formed .tolerance-low)
+      (formed .tolerance-high) (audit-accepts f values picks C said)

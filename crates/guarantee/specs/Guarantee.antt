@@ -1,7 +1,8 @@
 -- What is promised of the rules of documents 01 and 02: each sentence is quoted over the theorem that it is, and a proof is a line
--- that cites. Nothing has to be believed but the model. The statements add `Met`, `after` and `taken` below and, of other files, with what
--- these rest on: `Accepts`, with `AcceptsWithin`, `NoUndercut` and `Marked`; `Beyond`; `HasLine` and `PickLine`; `Encodable`, with
--- `WellFormed`; `Says`; `machineOf`; `Allowed`; `Takes`. All else that a statement names is of the model, or of the kit.
+-- that cites. Nothing has to be believed but the model. The statements add `Met`, `finishedValues`, `finishedPicks`, `after` and `taken`
+-- below and, of other files, with what these rest on: `Accepts`, with `AcceptsWithin`, `NoUndercut` and `Marked`; `withTolerance`; `Beyond`;
+-- `HasLine` and `PickLine`; `Encodable`, with `WellFormed`; `Says`; `machineOf`; `Allowed`; `Takes`. All else that a statement names is of
+-- the model, or of the kit.
 use mathlib.Core.Path.{_≡_, _∙_, ap}
 use Prim.Native.Nat.{ℕ, _+_, _-_, _*_, _≤_, _<_}
 use native.Mathlib.Omega.{arith}
@@ -11,16 +12,18 @@ use mathlib.Core.List.{List, [], _∷_}
 use lib.Dec.{eqb}
 use lib.IntN.{ℤ, pos}
 use lib.ListN.{getD, length}
-use Rattle.model.specs.Limits.{maxBudget, giveUp, noPick, maxMoves, minRate, maxRate}
+use Rattle.model.specs.Limits.{maxTolerance, maxBudget, giveUp, noPick, maxMoves, minRate, maxRate}
 use Rattle.model.specs.Problem.{Problem, Outcome, giveUpCost, ownRow}
 use Rattle.model.specs.Value.{byState, weightedSum, rowTicks, rowValue, rowRemainder}
-use Rattle.model.specs.Sections.{lengthSeconds, rateSeconds, kindOf, costNumberOf, problemOf}
+use Rattle.model.specs.Sections.{lengthSeconds, rateSeconds, kindOf, costNumberOf, atTolerance, problemOf}
 use Rattle.model.specs.Questions.{passes, fails, _then_, fileQuestions}
 use Rattle.model.specs.Walk.{In, walk, Reached, successors, pickCost, leastCost}
 use Rattle.model.specs.Rounds.{Machine, scanOf, backup, backups, walked, round, machineStart, runFrom, runOf, listTable, bellman}
 use Rattle.model.specs.declared.Counts.{Counts}
+use Rattle.model.specs.declared.Kind.{Kind}
+use Rattle.model.specs.declared.Kind.the-variants.{Plain, Finishing}
 use Rattle.model.specs.Solution.{fine, Tables, solved, spent, refused, solutionOf, solveQuestions, solution}
-use Rattle.model.specs.Audit.{accepted, refused as audit-refused, ownPick, audit}
+use Rattle.model.specs.Audit.{accepted, refused as audit-refused, ownPick, pickValue, audit}
 use Rattle.model.specs.Following.{wayTo, waySeconds, hasOutcome, done, refused as report-refused, Report, atStart, opening, report}
 use Rattle.model.specs.Following.{reports, acceptedOf}
 use Rattle.model.specs.declared.Follower.{Follower}
@@ -39,12 +42,14 @@ use Rattle.guarantee.specs.Accepted.{Accepts, audit-exactly, audit-table
 use Rattle.guarantee.specs.Closeness.{audit-lower, audit-close}
 use Rattle.guarantee.specs.Sound.{Allowed, best-is-bellman, backup-rises}
 use Rattle.guarantee.specs.Sound.{scan-gives-up, scan-takes-row, scan-pick-stays, scan-order-wins}
-use Rattle.guarantee.specs.Backups.{machineOf, run-keeps}
+use Rattle.guarantee.specs.Backups.{machineOf, run-keeps, whole-run-keeps}
 use Rattle.guarantee.specs.Allowances.{rounds-enough-fit}
+use Rattle.guarantee.specs.Retuned.{withTolerance, retuned-passes, retuned-problem}
+use Rattle.guarantee.specs.Finished.{finished-exact}
 use Rattle.guarantee.specs.Beyond.{Beyond, solution-beyond}
 use Rattle.guarantee.specs.Hollow.{table-too-dear}
 use Rattle.guarantee.specs.Underway.{Underway, turn-open, underway-start, underway-walked, underway-backup, scan-any-memory}
-use Rattle.guarantee.specs.Solutions.{lent-sound, solution-run, solution-ends, spent-budget, refused-by}
+use Rattle.guarantee.specs.Solutions.{lent-sound, solution-run, solution-ends, spent-budget, spent-the-same, refused-by}
 use Rattle.guarantee.specs.Solutions.{never-fourteen, answer-accepted, answer-gives-up}
 use Rattle.guarantee.specs.Values.{rowValue-exact, rowRemainder-low}
 use Rattle.guarantee.specs.Listings.{HasLine, PickLine, lines-pick, solved-list, solved-lines}
@@ -100,50 +105,91 @@ giving-up-refused f values picks file values-long picks-long zeros high gives r 
     (dear .question, dear .place, dear .excess, audit-table f values picks file values-long picks-long ∙ dear .refusal, dear .number)
 
 -- Demand 2: "A solved or spent run equals, in values, moves and counts, the rounds of document 01": what is handed back is that of `runOf`,
--- the rounds with no check of question 14
+-- the rounds with no check of question 14, of the plain run or of E8's
 pub runs-the-rounds
-    : (f : List ℕ) (budget : ℕ) (t : Tables) → fileQuestions f ≡ passes → solveQuestions (problemOf f) budget t ≡ passes
-    → solution f budget t
-    ≡ solutionOf (problemOf f) (t .walk-list) (fine (runOf (problemOf f) budget (t .values) (t .picks) (t .remembered)))
-runs-the-rounds = solution-run
+    : (kind : Kind) (f : List ℕ) (budget : ℕ) (t : Tables) → fileQuestions f ≡ passes → solveQuestions (problemOf f) budget t ≡ passes
+    → solution kind f budget t
+    ≡ solutionOf (problemOf f) (t .walk-list) (fine (runOf kind (problemOf f) budget (t .values) (t .picks) (t .remembered)))
+runs-the-rounds kind f budget t file lent = solution-run f budget t file lent kind
 
 -- "If the budget is reached first, the run is spent.": none says so before it has done every round of its budget
 pub spent-late
-    : (f : List ℕ) (budget : ℕ) (t : Tables) (c : Counts) → solution f budget t .answer ≡ spent c → c .rounds ≡ budget
+    : (kind : Kind) (f : List ℕ) (budget : ℕ) (t : Tables) (c : Counts) → solution kind f budget t .answer ≡ spent c → c .rounds ≡ budget
 spent-late = spent-budget
 
 -- "in every table entries beyond stay": those of `Beyond`, however the call ends
-pub beyond-stays : (f : List ℕ) (budget : ℕ) (t : Tables) → Beyond (problemOf f) t (solution f budget t .tables)
+pub beyond-stays : (kind : Kind) (f : List ℕ) (budget : ℕ) (t : Tables) → Beyond (problemOf f) t (solution kind f budget t .tables)
 beyond-stays = solution-beyond
 
 -- Demand 3: "Whatever the file and the lent tables hold, if questions 1 to 13 say yes, a run of the rounds of document 01 given at least
--- (A + 1) × (n + 1) rounds ends solved, A being the file's rise allowance and n the number of its states that aren't goals."
+-- (A + 1) × (n + 1) rounds ends solved, A being the file's rise allowance and n the number of its states that aren't goals." Request E8, of
+-- a finishing one: "It ends within (B + 1) × (n + 1) + 1 rounds, B being the allowance computed with e = 1."
 pub ending
-    : (f : List ℕ) (budget : ℕ) (t : Tables) → fileQuestions f ≡ passes → solveQuestions (problemOf f) budget t ≡ passes
-    → roundsEnough (problemOf f) ≤ budget
-    → (c : Counts) × (solution f budget t .answer ≡ solved c) × (c .rounds ≤ roundsEnough (problemOf f))
-ending f budget t file lent room =
-    let run = solution-ends f budget t file lent room in (run .counts, run .ends, run .within)
+    : (kind : Kind) (f : List ℕ) (budget : ℕ) (t : Tables) → fileQuestions f ≡ passes → solveQuestions (problemOf f) budget t ≡ passes
+    → roundsEnough kind (problemOf f) ≤ budget
+    → (c : Counts) × (solution kind f budget t .answer ≡ solved c) × (c .rounds ≤ roundsEnough kind (problemOf f))
+ending kind f budget t file lent room =
+    let run = solution-ends f budget t file lent kind room in (run .counts, run .ends, run .within)
 
 -- so many rounds may always be asked for: question 13 lets them through
-pub rounds-fit : (f : List ℕ) → fileQuestions f ≡ passes → roundsEnough (problemOf f) ≤ maxBudget
-rounds-fit f file = rounds-enough-fit (problemOf f) (well-formed f file)
+pub rounds-fit : (kind : Kind) (f : List ℕ) → fileQuestions f ≡ passes → roundsEnough kind (problemOf f) ≤ maxBudget
+rounds-fit kind f file = rounds-enough-fit (problemOf f) (well-formed f file) kind
 
 -- Demand 3: "Whenever a run of these rounds ends solved, at whatever budget, the audit accepts that file with the values and picks the run
 -- left, and gives the run's C."
 pub acceptance
-    : (f : List ℕ) (budget : ℕ) (t : Tables) (c : Counts) → solution f budget t .answer ≡ solved c
-    → audit f (solution f budget t .tables .values) (solution f budget t .tables .picks) ≡ accepted (c .least)
+    : (kind : Kind) (f : List ℕ) (budget : ℕ) (t : Tables) (c : Counts) → solution kind f budget t .answer ≡ solved c
+    → audit f (solution kind f budget t .tables .values) (solution kind f budget t .tables .picks) ≡ accepted (c .least)
 acceptance = answer-accepted
 
 -- Request E1: "a stick is given up only when that is cheaper". A solved plan gives up at a reached state only where every row costs
 -- more under the values left
 pub plan-gives-up-when-cheaper
-    : (f : List ℕ) (budget : ℕ) (t : Tables) (c : Counts) → solution f budget t .answer ≡ solved c
-    → (s : ℕ) → Reached (problemOf f) (byState (solution f budget t .tables .picks)) s → problemOf f .goal s ≡ false
-    → byState (solution f budget t .tables .picks) s ≡ giveUp → (r : ℕ) → ownRow (problemOf f) s r ≡ true
-    → giveUpCost (problemOf f) < rowValue (problemOf f) (byState (solution f budget t .tables .values)) r
+    : (kind : Kind) (f : List ℕ) (budget : ℕ) (t : Tables) (c : Counts) → solution kind f budget t .answer ≡ solved c
+    → (s : ℕ) → Reached (problemOf f) (byState (solution kind f budget t .tables .picks)) s → problemOf f .goal s ≡ false
+    → byState (solution kind f budget t .tables .picks) s ≡ giveUp → (r : ℕ) → ownRow (problemOf f) s r ≡ true
+    → giveUpCost (problemOf f) < rowValue (problemOf f) (byState (solution kind f budget t .tables .values)) r
 plan-gives-up-when-cheaper = answer-gives-up
+
+-- Request E8, finish to the tick, of a finishing run that ended solved.
+module _ (f : List ℕ) (budget : ℕ) (t : Tables) (c : Counts) (solved-so : solution Finishing f budget t .answer ≡ solved c) where
+  abbrev pub finishedValues : List ℕ
+  finishedValues = solution Finishing f budget t .tables .values
+
+  abbrev pub finishedPicks : List ℕ
+  finishedPicks = solution Finishing f budget t .tables .picks
+
+  -- "Then the value at every walked state is exactly the pick's row value, or 1000 × D." The walked states are the reached ones that are no
+  -- goals (`solved-lists-the-plan`)
+  pub finished-to-the-tick
+      : (s : ℕ) → Reached (problemOf f) (byState finishedPicks) s → problemOf f .goal s ≡ false
+      → byState finishedValues s ≡ pickValue (problemOf f) (byState finishedValues) (byState finishedPicks) s
+  finished-to-the-tick = finished-exact f budget t c solved-so .exact
+
+  -- "The audit accepts the answer under the file's own e", which is `acceptance`, "and under 1.": with 1 in the bytes of its tolerance the
+  -- file passes questions 1 to 11 too, and is accepted with the run's C
+  pub finished-acceptance
+      : (fileQuestions (atTolerance 1 f) ≡ passes) × (audit (atTolerance 1 f) finishedValues finishedPicks ≡ accepted (c .least))
+  finished-acceptance = let h = finished-exact f budget t c solved-so in (h .tick-passes, h .tick-accepted)
+
+  -- Demand 3 under 1: "And C × V covers the accepted plan in (C − e)-ths", with e = 1, for the file itself
+  pub finished-closeness
+      : (1 ≤ c .least - 1)
+      × Cover (problemOf f) (c .least - 1) (planOf (problemOf f) (byState finishedPicks)) (λ s. c .least * byState finishedValues s)
+      (Reached (problemOf f) (byState finishedPicks))
+  finished-closeness = let h = finished-exact f budget t c solved-so .close in (h .positive, h .upper)
+
+-- "the file with 1 in the bytes of its tolerance", or with any other that question 4 lets through: its problem is the same but for that
+pub retuned-file
+    : (f : List ℕ) (e : ℕ) → 1 ≤ e → e ≤ maxTolerance → fileQuestions f ≡ passes
+    → (fileQuestions (atTolerance e f) ≡ passes) × (problemOf (atTolerance e f) ≡ withTolerance e (problemOf f))
+retuned-file f e low high file = (retuned-passes f e low high file, retuned-problem f e low high file)
+
+-- The plain run is the first part of the finishing one: where its budget ends in it, both leave the same
+pub spent-alike
+    : (f : List ℕ) (budget : ℕ) (t : Tables) (c : Counts) → solution Plain f budget t .answer ≡ spent c
+    → solution Finishing f budget t ≡ solution Plain f budget t
+spent-alike = spent-the-same
 
 -- Request E3: "The row value shall come with its remainder, 0 to 999", and E7: "Remainders run below W.": W × (value − 1000 × c) and the
 -- remainder are together the exact sum, whatever W is, and the remainder is below every W of at least 1
@@ -162,23 +208,23 @@ file-remainder-low f file v r = remainder-low (problemOf f) v r (total-low (well
 -- "Each state line of `plan` ends with the remainder of its pick under the final values, 0 for `give`." Solved or spent, a state with a
 -- line (`HasLine`) gives up, and its remainder is 0, or takes one of its own rows, and its remainder is that row's (`PickLine`)
 pub lines-name-picks
-    : (f : List ℕ) (budget : ℕ) (t : Tables) (s : ℕ) → HasLine (problemOf f) (solution f budget t) s
-    → PickLine (problemOf f) (byState (solution f budget t .tables .values)) s (getD (solution f budget t .tables .picks) s 0)
+    : (kind : Kind) (f : List ℕ) (budget : ℕ) (t : Tables) (s : ℕ) → HasLine (problemOf f) (solution kind f budget t) s
+    → PickLine (problemOf f) (byState (solution kind f budget t .tables .values)) s (getD (solution kind f budget t .tables .picks) s 0)
 lines-name-picks = lines-pick
 
 -- "then for each state of the last walk, by state number": after solved the last walk is that of the picks that are left. The walk list
 -- left is its list, then 65,535s up to the number of states, then the lent entries beyond
 pub solved-leaves-the-walk
-    : (f : List ℕ) (budget : ℕ) (t : Tables) (c : Counts) → solution f budget t .answer ≡ solved c
-    → solution f budget t .tables .walk-list
-    ≡ listTable (problemOf f .states) (walk (problemOf f) (byState (solution f budget t .tables .picks)) .list) (t .walk-list)
+    : (kind : Kind) (f : List ℕ) (budget : ℕ) (t : Tables) (c : Counts) → solution kind f budget t .answer ≡ solved c
+    → solution kind f budget t .tables .walk-list
+    ≡ listTable (problemOf f .states) (walk (problemOf f) (byState (solution kind f budget t .tables .picks)) .list) (t .walk-list)
 solved-leaves-the-walk = solved-list
 
 -- and the states that stand in it, which are those that `plan` has a line for, are exactly those that the plan left comes to, goals aside
 pub solved-lists-the-plan
-    : (f : List ℕ) (budget : ℕ) (t : Tables) (c : Counts) → solution f budget t .answer ≡ solved c
-    → (s : ℕ) → HasLine (problemOf f) (solution f budget t) s
-    ↔ (Reached (problemOf f) (byState (solution f budget t .tables .picks)) s × (problemOf f .goal s ≡ false))
+    : (kind : Kind) (f : List ℕ) (budget : ℕ) (t : Tables) (c : Counts) → solution kind f budget t .answer ≡ solved c
+    → (s : ℕ) → HasLine (problemOf f) (solution kind f budget t) s
+    ↔ (Reached (problemOf f) (byState (solution kind f budget t .tables .picks)) s × (problemOf f .goal s ≡ false))
 solved-lists-the-plan = solved-lines
 
 -- Request E5: "cost 600 × length / rate rounded up", and "the rounding rule holds for each length by one argument". With c for the cost,
@@ -273,12 +319,12 @@ file-longer-than-tables = file-long
 
 -- Demand 1: "the first failed question of document 01 with its place, lent tables unchanged (save at 14)". The question is one of 1 to 13
 pub refusal
-    : (f : List ℕ) (budget : ℕ) (t : Tables) (q i : ℕ) → solution f budget t .answer ≡ refused q i
-    → ((fileQuestions f then solveQuestions (problemOf f) budget t) ≡ fails q i) × (solution f budget t .tables ≡ t)
-refusal f budget t q i h = let by = refused-by f budget t q i h in (by .failed, by .left)
+    : (kind : Kind) (f : List ℕ) (budget : ℕ) (t : Tables) (q i : ℕ) → solution kind f budget t .answer ≡ refused q i
+    → ((fileQuestions f then solveQuestions (problemOf f) budget t) ≡ fails q i) × (solution kind f budget t .tables ≡ t)
+refusal kind f budget t q i h = let by = refused-by kind f budget t q i h in (by .failed, by .left)
 
 -- and number 14 never comes
-pub never-overflows : (f : List ℕ) (budget : ℕ) (t : Tables) (r : ℕ) → solution f budget t .answer ≡ refused 14 r → ⊥
+pub never-overflows : (kind : Kind) (f : List ℕ) (budget : ℕ) (t : Tables) (r : ℕ) → solution kind f budget t .answer ≡ refused 14 r → ⊥
 never-overflows = never-fourteen
 
 -- The machines that rounds of a problem from lent tables meet, with the states that are still to be backed up in their round: at first;
@@ -305,8 +351,11 @@ module _ (p : Problem) (t : Tables) (e : ℕ) where
   run-goes-on-met = run-keeps p e (λ n. Met p t []) (λ n. round-met)
 
 -- so, whatever the budget, and after each round, the run's machine is met
-pub run-met : (p : Problem) (t : Tables) (budget : ℕ) → Met p t [] (machineOf (runOf p budget (t .values) (t .picks) (t .remembered)))
-run-met p t budget = run-goes-on-met p t (p .tolerance) budget true 0 _ starts
+pub run-met
+    : (kind : Kind) (p : Problem) (t : Tables) (budget : ℕ)
+    → Met p t [] (machineOf (runOf kind p budget (t .values) (t .picks) (t .remembered)))
+run-met kind p t budget =
+    whole-run-keeps p (λ n. Met p t []) (λ e n. round-met p t e) kind budget (t .values) (t .picks) (t .remembered) starts
 
 -- What holds on every round of a file and lent tables that pass questions 1 to 13.
 module _ (f : List ℕ) (budget : ℕ) (t : Tables) (file : fileQuestions f ≡ passes)

@@ -13,40 +13,43 @@ use lib.Dec.{eqb}
 use lib.IntN.{ℤ}
 use lib.ListN.{getD, length, replicate, length-replicate}
 use borrow.Author.Tests.{leb-true, le-leb}
-use Rattle.model.specs.Bytes.{u16At, u32At}
+use Rattle.model.specs.Bytes.{u16At, u32At, numberBytes}
 use Rattle.model.specs.Limits.{maxBudget, planRounds, giveUp, minRate, maxRate, rateCount}
-use Rattle.model.specs.CaseFiles.{fileP, partnerP, penaltyP, tiedLater, rounding, valuesP, picksP, lent, planned, at}
-use Rattle.model.specs.Computed.{cases-hold, others-hold, forms-hold}
+use Rattle.model.specs.CaseFiles.{fileP, partnerP, penaltyP, tiedLater, rounding, coarse, valuesP, picksP, lent, planned, finishing, at}
+use Rattle.model.specs.Computed.{cases-hold, others-hold, forms-hold, finishings-hold}
 use Rattle.model.specs.Problem.{Problem, Outcome, giveUpCost}
 use Rattle.model.specs.Lines.{runStates, listed}
 use Rattle.model.specs.Search.{first, sumTo}
 use Rattle.model.specs.Value.{byState, rowValue, rowRemainder, weightedSum, totalWeight}
 use Rattle.model.specs.Sections.{statesAt, rowsAt, outcomesAt, fileEnd, outcomesFrom, lengthSeconds, rateSeconds, secondsOn}
-use Rattle.model.specs.Sections.{kindOf, problemOf}
+use Rattle.model.specs.Sections.{kindOf, atTolerance, problemOf}
 use Rattle.model.specs.Questions.{passes, sectionQuestions, endQuestion, layoutQuestions, settingQuestions, stateObeys}
 use Rattle.model.specs.Questions.{stateQuestion, startQuestion, rowNumberQuestion, costObeys, rowObeys, rowQuestion}
 use Rattle.model.specs.Questions.{outcomeNumberQuestion, outcomesObey, outcomeQuestion, undercutRow, undercutState}
 use Rattle.model.specs.Questions.{estimateQuestion, itemQuestions, fileQuestions}
 use Rattle.model.specs.Walk.{In, Reached, at-start, successors, visitOutcomes, visitState, next, walk, pickCost, leastCost}
 use Rattle.model.specs.Walk.{leastTo}
-use Rattle.model.specs.Rounds.{fillTo, listTable, machineStart, runFrom, runOf}
+use Rattle.model.specs.Rounds.{fillTo, listTable, machineStart, runFrom, goesOn, runOf}
 use Rattle.model.specs.Encoding.{settingsOn, encode}
 use Rattle.model.specs.SetForm.{inSetForm, setForm, Same}
 use Rattle.model.specs.Sheets.{sheetText, tableText}
 use Rattle.model.specs.Carried.{counts}
 use Rattle.model.specs.declared.Counts.{Counts}
+use Rattle.model.specs.declared.Kind.{Kind}
+use Rattle.model.specs.declared.Kind.the-variants.{Plain, Finishing}
 use Rattle.model.specs.Solution.{fine, Tables, solved, spent, refused, solutionOf, solveQuestions, solution}
 use Rattle.model.specs.Audit.{accepted, refused as audit-refused, audit, problemAudit, tableQuestions, unboundedState, strayState}
 use Rattle.model.specs.Audit.{slackState, pickValue}
 use Rattle.model.specs.Cover.{Choice, Cover, planOf, allowance, allowanceTo, openTo}
-use Rattle.model.specs.Promises.{Close, roundsEnough}
+use Rattle.model.specs.Promises.{Close, roundBound, roundsEnough}
 use Rattle.guarantee.specs.WellFormed.{WellFormed, Laid, well-formed, laid}
 use Rattle.guarantee.specs.Searches.{yes-ask}
 use Rattle.guarantee.specs.Tables.{fill-entry}
-use Rattle.guarantee.specs.Accepted.{audit-accepts}
+use Rattle.guarantee.specs.Accepted.{audit-yes, audit-accepts}
 use Rattle.guarantee.specs.Closeness.{audit-close}
 use Rattle.guarantee.specs.Encodings.{Encodable, Says}
 use Rattle.guarantee.specs.Forms.{form-encodable}
+use Rattle.guarantee.specs.Retuned.{withTolerance}
 use Rattle.guarantee.specs.Solutions.{solution-refused}
 use Rattle.guarantee.specs.Listings.{HasLine, PickLine}
 use Rattle.guarantee.specs.Guarantee.{closeness-lower, closeness-upper, closeness-positive, giving-up-refused}
@@ -56,6 +59,7 @@ use Rattle.guarantee.specs.Guarantee.{rounding-rule, sheet-is-the-table,
 use Rattle.guarantee.specs.Guarantee.{form-is-accepted, form-setting-count, form-kind, form-rises, form-weights}
 use Rattle.guarantee.specs.Guarantee.{form-says-the-same, form-no-longer, form-stays, form-values, form-remainders}
 use Rattle.guarantee.specs.Guarantee.{form-audits, encoded-reads-back, file-longer-than-tables, refusal}
+use Rattle.guarantee.specs.Guarantee.{finished-to-the-tick, finished-acceptance, finished-closeness, retuned-file, spent-alike}
 
 abbrev pub problemP : Problem
 problemP = problemOf fileP
@@ -94,7 +98,7 @@ p-formed = well-formed fileP p-passes
 pub p-laid : Laid fileP
 p-laid = laid fileP p-passes
 
-pub p-close : Close problemP (byState valuesP) (byState picksP) 100000
+pub p-close : Close problemP (problemP .tolerance) (byState valuesP) (byState picksP) 100000
 p-close = audit-close fileP valuesP picksP 100000 p-accepted
 
 -- the accepted plan and its cover, in 99,999ths of a tick
@@ -129,7 +133,7 @@ p-gives-up =
     0 refl p-cheaper
 
 -- A is 10,000,000 and n is 2, so that 30,000,003 rounds are enough
-pub p-allowance : allowance problemP ≡ 10000000
+pub p-allowance : allowance problemP 1 ≡ 10000000
 unfolding allowance allowanceTo problemOf statesAt u16At u32At
 p-allowance = refl
 
@@ -137,12 +141,21 @@ pub p-open : openTo problemP (problemP .states) ≡ 2
 unfolding openTo problemOf statesAt u16At u32At
 p-open = refl
 
-pub p-rounds : roundsEnough problemP ≡ 30000003
+pub p-rounds : roundsEnough Plain problemP ≡ 30000003
+unfolding roundBound problemOf u16At u32At
 p-rounds = rw (p-allowance, p-open)
 
 -- and so many may be asked for
 pub p-rounds-fit : 30000003 ≤ maxBudget
-p-rounds-fit = rw p-rounds at (rounds-fit fileP p-passes)
+p-rounds-fit = rw p-rounds at (rounds-fit Plain fileP p-passes)
+
+-- E8: a finishing run has one more
+pub p-finish-rounds : roundsEnough Finishing problemP ≡ 30000004
+unfolding roundBound
+p-finish-rounds = rw (p-allowance, p-open)
+
+pub p-finish-fits : 30000004 ≤ maxBudget
+p-finish-fits = rw p-finish-rounds at (rounds-fit Finishing fileP p-passes)
 
 pub p-lent : (budget : ℕ) → budget ≤ maxBudget → solveQuestions problemP budget (lent 3) ≡ passes
 unfolding solveQuestions problemOf statesAt rowsAt u16At u32At
@@ -150,26 +163,63 @@ p-lent budget l = yes-ask 13 0 (le-leb budget maxBudget l)
 
 pub p-runs
     : (budget : ℕ) → budget ≤ maxBudget
-    → solution fileP budget (lent 3)
-    ≡ solutionOf problemP (lent 3 .walk-list) (fine (runOf problemP budget (lent 3 .values) (lent 3 .picks) (lent 3 .remembered)))
-p-runs budget l = runs-the-rounds fileP budget (lent 3) p-passes (p-lent budget l)
+    → solution Plain fileP budget (lent 3)
+    ≡ solutionOf problemP (lent 3 .walk-list) (fine (runOf Plain problemP budget (lent 3 .values) (lent 3 .picks) (lent 3 .remembered)))
+p-runs budget l = runs-the-rounds Plain fileP budget (lent 3) p-passes (p-lent budget l)
 
 -- "Budget 0 is spent with the first state"
-pub p-spent : solution fileP 0 (lent 3) .answer ≡ spent (counts 0 0 0)
-unfolding solutionOf runFrom machineStart
+pub p-spent : solution Plain fileP 0 (lent 3) .answer ≡ spent (counts 0 0 0)
+unfolding solutionOf goesOn runFrom machineStart
 p-spent = ap (λ a. a .answer) (p-runs 0 (omega arith))
 
 -- after as many rounds as its budget has
 pub p-spent-late : _≡_ {A = ℕ} 0 0
-p-spent-late = spent-late fileP 0 (lent 3) (counts 0 0 0) p-spent
+p-spent-late = spent-late Plain fileP 0 (lent 3) (counts 0 0 0) p-spent
 
 pub p-ends
-    : (c : Counts) × (solution fileP 30000003 (lent 3) .answer ≡ solved c) × (c .rounds ≤ 30000003)
-p-ends = rw p-rounds at (ending fileP 30000003 (lent 3) p-passes (p-lent 30000003 (omega arith)) (rw p-rounds (omega arith)))
+    : (c : Counts) × (solution Plain fileP 30000003 (lent 3) .answer ≡ solved c) × (c .rounds ≤ 30000003)
+p-ends = rw p-rounds at (ending Plain fileP 30000003 (lent 3) p-passes (p-lent 30000003 (omega arith)) (rw p-rounds (omega arith)))
 
 -- with the budget of `plan`, which is less, P is solved too, and what is left is accepted
 pub p-acceptance : audit fileP (planned fileP 3 .tables .values) (planned fileP 3 .tables .picks) ≡ accepted 100000
-p-acceptance = acceptance fileP planRounds (lent 3) (counts 3 5 100000) p-solved
+p-acceptance = acceptance Plain fileP planRounds (lent 3) (counts 3 5 100000) p-solved
+
+-- E8: P's finishing run ends solved within one round more. The file with e 100 whose plain run ends under its pick is finished in 9 rounds:
+-- the value of its start is then that of its row, 1,000 + 333 × 1,498 / 1,000, the audit under 1 takes it with C 1,000, and 1,000 × V covers
+-- the plan in 999ths
+pub p-finishes
+    : (c : Counts) × (solution Finishing fileP 30000004 (lent 3) .answer ≡ solved c) × (c .rounds ≤ 30000004)
+p-finishes =
+    rw p-finish-rounds at
+    (ending Finishing fileP 30000004 (lent 3) p-passes (p-lent 30000004 (omega arith)) (rw p-finish-rounds (omega arith)))
+
+pub coarse-passes : fileQuestions coarse ≡ passes
+coarse-passes = retuned-file rounding 100 (omega arith) (omega arith) (audit-yes rounding valuesR picksR 1000 (computed .2) .file-passes) .0
+
+pub coarse-tolerance : problemOf coarse ≡ withTolerance 100 (problemOf rounding)
+coarse-tolerance =
+    retuned-file rounding 100 (omega arith) (omega arith) (audit-yes rounding valuesR picksR 1000 (computed .2) .file-passes) .1
+
+abbrev pub finishedCoarse : Tables
+finishedCoarse = finishing coarse planRounds 2 .tables
+
+pub coarse-exact
+    : byState (finishedCoarse .values) 0
+    ≡ pickValue (problemOf coarse) (byState (finishedCoarse .values)) (byState (finishedCoarse .picks)) 0
+unfolding problemOf atTolerance statesAt numberBytes u16At u32At
+coarse-exact = finished-to-the-tick coarse planRounds (lent 2) (counts 9 9 1000) (finishings-hold .0) 0 at-start refl
+
+pub coarse-accepted : audit (atTolerance 1 coarse) (finishedCoarse .values) (finishedCoarse .picks) ≡ accepted 1000
+coarse-accepted = finished-acceptance coarse planRounds (lent 2) (counts 9 9 1000) (finishings-hold .0) .1
+
+pub coarse-cover
+    : Cover (problemOf coarse) 999 (planOf (problemOf coarse) (byState (finishedCoarse .picks)))
+    (λ s. 1000 * byState (finishedCoarse .values) s) (Reached (problemOf coarse) (byState (finishedCoarse .picks)))
+coarse-cover = finished-closeness coarse planRounds (lent 2) (counts 9 9 1000) (finishings-hold .0) .1
+
+-- and with no budget P's two runs are spent alike
+pub p-spent-alike : solution Finishing fileP 0 (lent 3) ≡ solution Plain fileP 0 (lent 3)
+p-spent-alike = spent-alike fileP 0 (lent 3) (counts 0 0 0) p-spent
 
 -- E3: what the division leaves of P's row 0 is below 1,000
 pub p-remainder : rowRemainder problemP (byState valuesP) 0 < problemP .total
@@ -183,20 +233,20 @@ p-file-remainder = file-remainder-low fileP p-passes (byState valuesP) 0
 pub p-left
     : planned fileP 3 .tables .walk-list
     ≡ listTable (problemP .states) (walk problemP (byState (planned fileP 3 .tables .picks)) .list) (replicate 3 7)
-p-left = solved-leaves-the-walk fileP planRounds (lent 3) (counts 3 5 100000) p-solved
+p-left = solved-leaves-the-walk Plain fileP planRounds (lent 3) (counts 3 5 100000) p-solved
 
 pub p-start-listed : HasLine problemP (planned fileP 3) 0
 unfolding problemOf statesAt u16At u32At
-p-start-listed = solved-lists-the-plan fileP planRounds (lent 3) (counts 3 5 100000) p-solved 0 .1 (at-start, refl)
+p-start-listed = solved-lists-the-plan Plain fileP planRounds (lent 3) (counts 3 5 100000) p-solved 0 .1 (at-start, refl)
 
 pub p-listed-reached : Reached problemP (byState (planned fileP 3 .tables .picks)) 1 × (problemP .goal 1 ≡ false)
 unfolding runStates listed problemOf statesAt u16At
 p-listed-reached =
-    solved-lists-the-plan fileP planRounds (lent 3) (counts 3 5 100000) p-solved 1 .0
+    solved-lists-the-plan Plain fileP planRounds (lent 3) (counts 3 5 100000) p-solved 1 .0
     (rw p-solved (omega arith), rw (p-solved, others-hold .1 .1 .1 .1 .0) refl)
 
 pub p-line : PickLine problemP (byState (planned fileP 3 .tables .values)) 0 (getD (planned fileP 3 .tables .picks) 0 0)
-p-line = lines-name-picks fileP planRounds (lent 3) 0 p-start-listed
+p-line = lines-name-picks Plain fileP planRounds (lent 3) 0 p-start-listed
 
 -- E5: a stick of 250 mm at rate 700; E4's table, as a list that is filled with it; and P's row 1, of kind 1 and rate 1,000
 pub rounded-250 : (600 * 250 ≤ lengthSeconds 250 700 * 700) × (lengthSeconds 250 700 * 700 < 600 * 250 + 700)
@@ -282,9 +332,9 @@ unfolding problemOf statesAt u16At
 p-long = file-longer-than-tables fileP p-passes
 
 -- a refusal: "Empty file: 1, place 0"
-pub empty-refused : (budget : ℕ) (t : Tables) → solution [] budget t .answer ≡ refused 1 0
-empty-refused budget t =
-    ap (λ a. a .answer) (solution-refused [] budget t 1 0 (rw (cases-hold .1 .1 .1 .1 .1 .1 .1 .1 .1 .1 .0)))
+pub empty-refused : (kind : Kind) (budget : ℕ) (t : Tables) → solution kind [] budget t .answer ≡ refused 1 0
+empty-refused kind budget t =
+    ap (λ a. a .answer) (solution-refused kind [] budget t 1 0 (rw (cases-hold .1 .1 .1 .1 .1 .1 .1 .1 .1 .1 .0)))
 
-pub empty-stays : (budget : ℕ) (t : Tables) → solution [] budget t .tables ≡ t
-empty-stays budget t = refusal [] budget t 1 0 (empty-refused budget t) .1
+pub empty-stays : (kind : Kind) (budget : ℕ) (t : Tables) → solution kind [] budget t .tables ≡ t
+empty-stays kind budget t = refusal kind [] budget t 1 0 (empty-refused kind budget t) .1

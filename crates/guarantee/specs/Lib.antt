@@ -40,10 +40,12 @@ pub mod Arithmetic
 pub mod Closeness
 pub mod Excess
 pub mod Agreeing
+pub mod Retuned
 pub mod Hollow
 -- What a solved run leaves, and what is left of lent tables
 pub mod Solved
 pub mod Solutions
+pub mod Finished
 pub mod Listings
 pub mod Beyond
 -- Following a plan (E2)

@@ -16,9 +16,10 @@ use Rattle.model.specs.Value.{byState, rowRemainder, pickRemainder}
 use Rattle.model.specs.Sections.{problemOf}
 use Rattle.model.specs.Walk.{In, here, there, walk, Reached}
 use Rattle.model.specs.Lines.{listed, runStates}
-use Rattle.model.specs.Rounds.{Machine, Ending, solved, spent, scanOf, backup, backups, walked, round, runFrom}
+use Rattle.model.specs.Rounds.{Machine, Ending, solved, spent, scanOf, backup, backups, walked, round}
 use Rattle.model.specs.Rounds.{machineStart, listTable}
 use Rattle.model.specs.declared.Counts.{Counts}
+use Rattle.model.specs.declared.Kind.{Kind}
 use Rattle.model.specs.Solution.{fine, Tables, Solution, solved as answer-solved, solutionOf, solution}
 use Rattle.guarantee.specs.WellFormed.{WellFormed, well-formed}
 use Rattle.guarantee.specs.Values.{pickRemainder-give, pickRemainder-row}
@@ -28,7 +29,7 @@ use Rattle.guarantee.specs.Rows.{row-no-mark}
 use Rattle.guarantee.specs.Graphs.{in-cons, in-nil, set-entry}
 use Rattle.guarantee.specs.Choosing.{OwnPick, landed-pick}
 use Rattle.guarantee.specs.Sound.{Sound, scan-landed, backup-sound}
-use Rattle.guarantee.specs.Backups.{Open, machineOf, backup-picks, walk-opens, round-list, walked-sound, round-sound, run-keeps}
+use Rattle.guarantee.specs.Backups.{Open, machineOf, backup-picks, walk-opens, round-list, walked-sound, round-sound, whole-run-keeps}
 use Rattle.guarantee.specs.Solutions.{Told, turned-down, ran, told, lent-sound, runWith, solved-by, solved-ends}
 
 abbrev Has : Problem → Machine → ℕ → Type 0
@@ -71,9 +72,6 @@ module _ (p : Problem) (formed : WellFormed p) (e : ℕ) where
             backups-have (walk p picks .list) (walked p m) (walk-opens p formed picks) (walked-sound p formed e m (h .sound)) s
             (inl (rw (round-list p e m) at i));
       }
-
-  run-picked : (budget : ℕ) (m : Machine) → Picked p m → Picked p (machineOf (runFrom p e budget true 0 m))
-  run-picked budget m h = run-keeps p e (λ n. Picked p) (λ n. round-picked) budget true 0 m h
 
 -- a state that is listed among the first n entries of one list after another stands in the first, or among those that are left
 listed-parts
@@ -143,13 +141,13 @@ HasLine p x s =
     let n = runStates (x .answer) (p .states) in (s < n) × (listed s (take n (x .tables .walk-list)) ≡ true)
 
 -- however the call ends: each such state has a pick
-module _ (f : List ℕ) (budget : ℕ) (t : Tables) where
+module _ (kind : Kind) (f : List ℕ) (budget : ℕ) (t : Tables) where
   abbrev Lines : Solution → Type 0
   Lines x = (s : ℕ) → HasLine (problemOf f) x s → PickLine (problemOf f) (byState (x .tables .values)) s (getD (x .tables .picks) s 0)
 
-  pub lines-pick : Lines (solution f budget t)
+  pub lines-pick : Lines (solution kind f budget t)
   unfolding runStates solutionOf machineStart
-  lines-pick = go (told f budget t)
+  lines-pick = go (told kind f budget t)
     where
       p : Problem
       p = problemOf f
@@ -165,27 +163,28 @@ module _ (f : List ℕ) (budget : ℕ) (t : Tables) where
       on formed (solved n m) picked s h = line formed m picked s (h .0) (h .1)
       on formed (spent n m) picked s h = line formed m picked s (h .0) (h .1)
 
-      go : Told f budget t → Lines (solution f budget t)
+      go : Told kind f budget t → Lines (solution kind f budget t)
       go (turned-down q i e is) = rw is (λ s h. absurd (omega (arith, h .0)))
       go (ran file lent is) =
           let formed = well-formed f file in
           let start : Picked p (machineStart p (t .values) (t .picks) (t .remembered)) =
           record { sound = lent-sound f budget t file lent; has = λ s i. absurd (in-nil i) } in
-          rw is (on formed (runWith f budget t) (run-picked p formed (p .tolerance) budget _ start))
+          rw is
+          (on formed (runWith kind f budget t) (whole-run-keeps p (λ n. Picked p) (λ e n. round-picked p formed e) kind budget _ _ _ start))
 
   -- After solved: the list left is that of the walk of the picks left, and 65,535s.
-  module _ (c : Counts) (h : solution f budget t .answer ≡ answer-solved c) where
+  module _ (c : Counts) (h : solution kind f budget t .answer ≡ answer-solved c) where
     pub solved-list
-        : solution f budget t .tables .walk-list
-        ≡ listTable (problemOf f .states) (walk (problemOf f) (byState (solution f budget t .tables .picks)) .list) (t .walk-list)
+        : solution kind f budget t .tables .walk-list
+        ≡ listTable (problemOf f .states) (walk (problemOf f) (byState (solution kind f budget t .tables .picks)) .list) (t .walk-list)
     solved-list =
-        let by = solved-by f budget t c h in
-        rw (by .left) (ap (λ l. listTable (problemOf f .states) l (t .walk-list)) (solved-ends f budget t by .listed))
+        let by = solved-by kind f budget t c h in
+        rw (by .left) (ap (λ l. listTable (problemOf f .states) l (t .walk-list)) (solved-ends kind f budget t by .listed))
 
     -- so the states with a line are those that the plan comes to, goals aside
     pub solved-lines
-        : (s : ℕ) → HasLine (problemOf f) (solution f budget t) s
-        ↔ (Reached (problemOf f) (byState (solution f budget t .tables .picks)) s × (problemOf f .goal s ≡ false))
+        : (s : ℕ) → HasLine (problemOf f) (solution kind f budget t) s
+        ↔ (Reached (problemOf f) (byState (solution kind f budget t .tables .picks)) s × (problemOf f .goal s ≡ false))
     unfolding runStates
     solved-lines s = rw h (rw solved-list (on, back))
       where
@@ -193,10 +192,10 @@ module _ (f : List ℕ) (budget : ℕ) (t : Tables) where
         p = problemOf f
 
         picks : ℕ → ℕ
-        picks = byState (solution f budget t .tables .picks)
+        picks = byState (solution kind f budget t .tables .picks)
 
         formed : WellFormed p
-        formed = well-formed f (solved-by f budget t c h .file)
+        formed = well-formed f (solved-by kind f budget t c h .file)
 
         Line : Type 0
         Line = (s < p .states) × (listed s (take (p .states) (listTable (p .states) (walk p picks .list) (t .walk-list))) ≡ true)

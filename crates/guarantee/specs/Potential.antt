@@ -162,12 +162,12 @@ module _ (p : Problem) (formed : WellFormed p) (d e : ℕ) (unit : 1 ≤ d) (ste
       go (rested close same values picks moved) = inr (rest-leaves values picks, moved)
 
 -- a sound machine whose potential is at most K, and below K once something has moved
-record PotentialWithin (p : Problem) (d K : ℕ) (m : Machine) : Type 0 where
-  sound : Sound p m
-  at-most : potential p d m ≤ K
-  below : m .moved ≡ true → potential p d m < K
+pub record PotentialWithin (p : Problem) (d K : ℕ) (m : Machine) : Type 0 where
+  pub sound : Sound p m
+  pub at-most : potential p d m ≤ K
+  pub below : m .moved ≡ true → potential p d m < K
 
--- a round that is not quiet lowers the potential
+-- no round lifts the potential, and one that is not quiet lowers it
 module _ (p : Problem) (formed : WellFormed p) (d e : ℕ) (unit : 1 ≤ d) (steps : d ≤ e) where
   backup-within : (K s : ℕ) (m : Machine) → Open p s → PotentialWithin p d K m → PotentialWithin p d K (backup p e s m)
   backup-within K s m o h = go (backup-lowers p formed d e unit steps s m o (h .sound))
@@ -188,8 +188,8 @@ module _ (p : Problem) (formed : WellFormed p) (d e : ℕ) (unit : 1 ≤ d) (ste
             below = λ q. omega (arith, h .below (sym still ∙ q));
           }
 
-  pub round-lowers : (m : Machine) → Sound p m → round p e m .moved ≡ true → potential p d (round p e m) < potential p d m
+  pub round-lowers : (m : Machine) → Sound p m → PotentialWithin p d (potential p d m) (round p e m)
   unfolding potential
-  round-lowers m sound moved =
+  round-lowers m sound =
       round-keeps p e (PotentialWithin p d (potential p d m)) (backup-within (potential p d m)) formed m
-      (record { sound = walked-sound p formed e m sound; at-most = omega arith; below = λ q. absurd (true≢false (sym q)) }) .below moved
+      (record { sound = walked-sound p formed e m sound; at-most = omega arith; below = λ q. absurd (true≢false (sym q)) })

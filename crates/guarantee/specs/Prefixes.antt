@@ -22,6 +22,7 @@ use Rattle.model.specs.TableFiles.{entries16, entries32}
 use Rattle.model.specs.Value.{byState}
 use Rattle.model.specs.Questions.{Verdict, passes, fails, _then_, ask, between, sectionQuestions, endQuestion, layoutQuestions}
 use Rattle.model.specs.Questions.{fileQuestions}
+use Rattle.model.specs.declared.Kind.{Kind}
 use Rattle.model.specs.Solution.{Tables, solution, solutionOn}
 use Rattle.model.specs.Audit.{refused, orElse, problemAudit, audit, auditOn}
 use Rattle.guarantee.specs.WellFormed.{WellFormed, section-there, between-high, well-formed, sectioned}
@@ -129,40 +130,40 @@ module _ (N : ℕ) (f : List ℕ) (h : longestFile < N) where
       go (cut q i e e′) = rw (e, e′) refl
 
   -- and its solution
-  pub solution-front : (budget : ℕ) (t : Tables) → solution (take N f) budget t ≡ solution f budget t
+  pub solution-front : (kind : Kind) (budget : ℕ) (t : Tables) → solution kind (take N f) budget t ≡ solution kind f budget t
   unfolding solution solutionOn fileQuestions
-  solution-front budget t = go (front N f h)
+  solution-front kind budget t = go (front N f h)
     where
-      go : Front N f → solution (take N f) budget t ≡ solution f budget t
-      go (whole e) = ap (λ g. solution g budget t) e
+      go : Front N f → solution kind (take N f) budget t ≡ solution kind f budget t
+      go (whole e) = ap (λ g. solution kind g budget t) e
       go (cut q i e e′) = rw (e, e′) refl
 
   -- and what `plan` prints of it
   pub plan-front
-      : (budget : ℕ) (t : Tables)
-      → planText (problemOf (take N f)) (solution (take N f) budget t) ≡ planText (problemOf f) (solution f budget t)
+      : (kind : Kind) (budget : ℕ) (t : Tables)
+      → planText (problemOf (take N f)) (solution kind (take N f) budget t) ≡ planText (problemOf f) (solution kind f budget t)
   unfolding planText stateLines runStates solution solutionOn fileQuestions
-  plan-front budget t = go (front N f h)
+  plan-front kind budget t = go (front N f h)
     where
       go
           : Front N f
-          → planText (problemOf (take N f)) (solution (take N f) budget t) ≡ planText (problemOf f) (solution f budget t)
-      go (whole e) = ap (λ g. planText (problemOf g) (solution g budget t)) e
+          → planText (problemOf (take N f)) (solution kind (take N f) budget t) ≡ planText (problemOf f) (solution kind f budget t)
+      go (whole e) = ap (λ g. planText (problemOf g) (solution kind g budget t)) e
       go (cut q i e e′) = rw (e, e′) refl
 
   -- and as many states
   pub states-front
-      : (budget : ℕ) (t : Tables)
-      → runStates (solution (take N f) budget t .answer) (problemOf (take N f) .states)
-      ≡ runStates (solution f budget t .answer) (problemOf f .states)
+      : (kind : Kind) (budget : ℕ) (t : Tables)
+      → runStates (solution kind (take N f) budget t .answer) (problemOf (take N f) .states)
+      ≡ runStates (solution kind f budget t .answer) (problemOf f .states)
   unfolding runStates solution solutionOn fileQuestions
-  states-front budget t = go (front N f h)
+  states-front kind budget t = go (front N f h)
     where
       go
           : Front N f
-          → runStates (solution (take N f) budget t .answer) (problemOf (take N f) .states)
-          ≡ runStates (solution f budget t .answer) (problemOf f .states)
-      go (whole e) = ap (λ g. runStates (solution g budget t .answer) (problemOf g .states)) e
+          → runStates (solution kind (take N f) budget t .answer) (problemOf (take N f) .states)
+          ≡ runStates (solution kind f budget t .answer) (problemOf f .states)
+      go (whole e) = ap (λ g. runStates (solution kind g budget t .answer) (problemOf g .states)) e
       go (cut q i e e′) = rw (e, e′) refl
 
   -- and its audit

@@ -1,7 +1,7 @@
 -- The theorems about the rounds and the walk speak of something: each that has hypotheses is cited where they are met, in the first rounds
 -- of P, of P with D 100, and of two files with a tie.
 use mathlib.Core.Path.{_≡_, refl, ap}
-use Prim.Native.Nat.{ℕ, _-_, _≤_, _<_}
+use Prim.Native.Nat.{ℕ, _≤_, _<_}
 use native.Mathlib.Omega.{arith}
 use mathlib.Core.Bool.{true, false}
 use mathlib.Core.List.{[], _∷_}
@@ -21,6 +21,7 @@ use Rattle.model.specs.Rounds.{Machine, fillTo, machineStart, walked, scanOf, b
 use Rattle.model.specs.Rounds.{takenIf, othersFrom, traverse, raiseOn, settle, backup}
 use Rattle.model.specs.Carried.{counts}
 use Rattle.model.specs.Solution.{Solution, solveQuestions}
+use Rattle.model.specs.declared.Kind.the-variants.{Plain}
 use Rattle.model.specs.Following.{moved}
 use Rattle.guarantee.specs.Graphs.{clear-entry}
 use Rattle.guarantee.specs.Sound.{Allowed}
@@ -90,7 +91,7 @@ pub p-gives-up-at-100
     : giveUpCost (problemOf (penaltyP 100 0)) < rowValue (problemOf (penaltyP 100 0)) (byState (cheaplyP .tables .values)) 0
 unfolding problemOf statesAt rowsAt sumTo u16At u32At
 p-gives-up-at-100 =
-    plan-gives-up-when-cheaper (penaltyP 100 0) planRounds (lent 3) (counts 3 2 100000) (requested-hold .1 .1 .1 .1 .1 .0)
+    plan-gives-up-when-cheaper Plain (penaltyP 100 0) planRounds (lent 3) (counts 3 2 100000) (requested-hold .1 .1 .1 .1 .1 .0)
     0 at-start refl (ap (λ l. byState l 0) (requested-hold .1 .1 .1 .1 .1 .1 .0)) 0 refl
 
 -- in its second round, whose walk lists 1 and 0, state 1 gives up, and its row 2 costs more

@@ -15,9 +15,11 @@ use Rattle.model.specs.Sections.{problemOf}
 use Rattle.model.specs.Questions.{Verdict, passes, fails, _then_, ask}
 use Rattle.model.specs.Questions.{fileQuestions}
 use Rattle.model.specs.Walk.{Reached, leastCost}
-use Rattle.model.specs.Rounds.{Machine, Ending, machineStart, runOf}
+use Rattle.model.specs.Rounds.{Machine, Ending, machineStart, goesOn, runOf}
 use Rattle.model.specs.Carried.{counts}
 use Rattle.model.specs.declared.Counts.{Counts}
+use Rattle.model.specs.declared.Kind.{Kind}
+use Rattle.model.specs.declared.Kind.the-variants.{Plain, Finishing}
 use Rattle.model.specs.Solution.{fine, Tables, Answer, solved, spent, refused, tablesOf, solutionOf}
 use Rattle.model.specs.Solution.{solveQuestions, solutionOn, solution}
 use Rattle.model.specs.Audit.{accepted, audit}
@@ -26,10 +28,10 @@ use Rattle.guarantee.specs.Searches.{then-first, then-next, ask-yes}
 use Rattle.guarantee.specs.Numbers.{early-questions, early-number}
 use Rattle.guarantee.specs.WellFormed.{well-formed}
 use Rattle.guarantee.specs.Sound.{Sound, start-sound}
-use Rattle.guarantee.specs.Backups.{run-spent}
-use Rattle.guarantee.specs.Checks.{checked-run}
+use Rattle.guarantee.specs.Backups.{whole-run-spent}
+use Rattle.guarantee.specs.Checks.{checked-run-of}
 use Rattle.guarantee.specs.Ending.{solve-ends}
-use Rattle.guarantee.specs.Solved.{Final, solved-final, final-passes-audit, final-gives-up}
+use Rattle.guarantee.specs.Solved.{Final, lastTolerance, last-narrow, run-final, final-passes-audit, final-gives-up}
 
 -- what questions 12 and 13 give
 pub record Lent (p : Problem) (budget : ℕ) (t : Tables) : Type 0 where
@@ -45,36 +47,37 @@ pub record SolvedWithin (bound : ℕ) (a : Answer) : Type 0 where
   pub ends : a ≡ solved counts
   pub within : counts .rounds ≤ bound
 
--- the run of a file with a budget from lent tables, with no check of question 14
-abbrev pub runWith : List ℕ → ℕ → Tables → Ending
-runWith f budget t = runOf (problemOf f) budget (t .values) (t .picks) (t .remembered)
+-- the run of a file with a budget from lent tables, of either kind, with no check of question 14
+abbrev pub runWith : Kind → List ℕ → ℕ → Tables → Ending
+runWith kind f budget t = runOf kind (problemOf f) budget (t .values) (t .picks) (t .remembered)
 
 -- questions 1 to 13
 abbrev pub questions : List ℕ → ℕ → Tables → Verdict
 questions f budget t = fileQuestions f then solveQuestions (problemOf f) budget t
 
 -- what an answer "solved" comes from
-pub record SolvedBy (f : List ℕ) (budget : ℕ) (t : Tables) (c : Counts) : Type 0 where
+pub record SolvedBy (kind : Kind) (f : List ℕ) (budget : ℕ) (t : Tables) (c : Counts) : Type 0 where
   pub file : fileQuestions f ≡ passes
   pub lent : solveQuestions (problemOf f) budget t ≡ passes
   pub machine : Machine
-  pub run : runWith f budget t ≡ Ending.solved (c .rounds) machine
+  pub run : runWith kind f budget t ≡ Ending.solved (c .rounds) machine
   pub evaluations : machine .evaluations ≡ c .evaluations
   pub least : leastCost (problemOf f) (byState (machine .picks)) ≡ c .least
-  pub left : solution f budget t .tables ≡ tablesOf (problemOf f) (t .walk-list) machine
+  pub left : solution kind f budget t .tables ≡ tablesOf (problemOf f) (t .walk-list) machine
 
 -- what a refusal comes from
-pub record RefusedBy (f : List ℕ) (budget : ℕ) (t : Tables) (q i : ℕ) : Type 0 where
+pub record RefusedBy (kind : Kind) (f : List ℕ) (budget : ℕ) (t : Tables) (q i : ℕ) : Type 0 where
   pub failed : questions f budget t ≡ fails q i
-  pub left : solution f budget t .tables ≡ t
+  pub left : solution kind f budget t .tables ≡ t
 
 -- the two ways of solving a file: a question fails, or the rounds are run
-pub data Told (f : List ℕ) (budget : ℕ) (t : Tables) : Type 0 where
+pub data Told (kind : Kind) (f : List ℕ) (budget : ℕ) (t : Tables) : Type 0 where
   turned-down
-      : (q i : ℕ) → questions f budget t ≡ fails q i → solution f budget t ≡ record { answer = refused q i; tables = t } → Told f budget t
+      : (q i : ℕ) → questions f budget t ≡ fails q i → solution kind f budget t ≡ record { answer = refused q i; tables = t }
+      → Told kind f budget t
   ran
       : fileQuestions f ≡ passes → solveQuestions (problemOf f) budget t ≡ passes
-      → solution f budget t ≡ solutionOf (problemOf f) (t .walk-list) (fine (runWith f budget t)) → Told f budget t
+      → solution kind f budget t ≡ solutionOf (problemOf f) (t .walk-list) (fine (runWith kind f budget t)) → Told kind f budget t
 
 pub lent-long : (p : Problem) (budget : ℕ) (t : Tables) → solveQuestions p budget t ≡ passes → Lent p budget t
 unfolding solveQuestions
@@ -118,68 +121,71 @@ module _ (f : List ℕ) (budget : ℕ) (t : Tables) (file : fileQuestions f ≡ 
       (long .remembered-long)
 
   -- the solution is that of the run with no check
-  pub solution-run : solution f budget t ≡ solutionOf (problemOf f) (t .walk-list) (fine (runWith f budget t))
+  pub solution-run : (kind : Kind) → solution kind f budget t ≡ solutionOf (problemOf f) (t .walk-list) (fine (runWith kind f budget t))
   unfolding solution solutionOn
-  solution-run =
+  solution-run kind =
       let p = problemOf f in
-      rw (file, lent) (ap (solutionOf p (t .walk-list)) (checked-run p (well-formed f file) (p .tolerance) budget true 0 _ lent-sound))
+      rw (file, lent)
+      (ap (solutionOf p (t .walk-list))
+      (checked-run-of p (well-formed f file) kind budget (t .values) (t .picks) (t .remembered) lent-sound))
 
-  -- "given at least (A + 1) × (n + 1) rounds ends solved"
+  -- "given at least (A + 1) × (n + 1) rounds ends solved", or as many as a finishing run has
   pub solution-ends
-      : roundsEnough (problemOf f) ≤ budget → SolvedWithin (roundsEnough (problemOf f)) (solution f budget t .answer)
+      : (kind : Kind) → roundsEnough kind (problemOf f) ≤ budget
+      → SolvedWithin (roundsEnough kind (problemOf f)) (solution kind f budget t .answer)
   unfolding solutionOf
-  solution-ends room =
+  solution-ends kind room =
       let p = problemOf f in
       let long = lent-long p budget t lent in
       let run = solve-ends p (well-formed f file) (t .values) (t .picks) (t .remembered) (long .values-long) (long .picks-long)
-      (long .remembered-long) budget room in
+      (long .remembered-long) kind budget room in
       record {
-        counts = counts (run .rounds) (run .machine .evaluations) (leastCost p (byState (run .machine .picks)));
-        ends = rw (solution-run, run .ends) refl;
-        within = run .within;
+        counts = counts (run .0) (run .1 .evaluations) (leastCost p (byState (run .1 .picks)));
+        ends = rw (solution-run kind, run .2) refl;
+        within = run .3;
       }
 
 -- "A no ends the call with the number and a place; no table has changed"
 pub solution-refused
-    : (f : List ℕ) (budget : ℕ) (t : Tables) (q i : ℕ) → questions f budget t ≡ fails q i
-    → solution f budget t ≡ record { answer = refused q i; tables = t }
+    : (kind : Kind) (f : List ℕ) (budget : ℕ) (t : Tables) (q i : ℕ) → questions f budget t ≡ fails q i
+    → solution kind f budget t ≡ record { answer = refused q i; tables = t }
 unfolding solution solutionOn
-solution-refused f budget t q i failed = rw failed refl
+solution-refused kind f budget t q i failed = rw failed refl
 
-module _ (f : List ℕ) (budget : ℕ) (t : Tables) where
-  pub told : Told f budget t
+module _ (kind : Kind) (f : List ℕ) (budget : ℕ) (t : Tables) where
+  pub told : Told kind f budget t
   told = go (questions f budget t) refl
     where
-      go : (v : Verdict) → questions f budget t ≡ v → Told f budget t
+      go : (v : Verdict) → questions f budget t ≡ v → Told kind f budget t
       go passes e =
           let file = then-first (fileQuestions f) _ e in
           let lent = then-next (fileQuestions f) _ e in
-          ran file lent (solution-run f budget t file lent)
-      go (fails q i) e = turned-down q i e (solution-refused f budget t q i e)
+          ran file lent (solution-run f budget t file lent kind)
+      go (fails q i) e = turned-down q i e (solution-refused kind f budget t q i e)
 
   -- a refusal is that of the first of questions 1 to 13 that fails, and leaves every table as lent
-  pub refused-by : (q i : ℕ) → solution f budget t .answer ≡ refused q i → RefusedBy f budget t q i
+  pub refused-by : (q i : ℕ) → solution kind f budget t .answer ≡ refused q i → RefusedBy kind f budget t q i
   unfolding solutionOf
   refused-by q i h = go told
     where
-      on : (run : Ending) → runWith f budget t ≡ run → solutionOf (problemOf f) (t .walk-list) (fine run) .answer ≡ refused q i
-          → RefusedBy f budget t q i
+      on : (run : Ending) → runWith kind f budget t ≡ run → solutionOf (problemOf f) (t .walk-list) (fine run) .answer ≡ refused q i
+          → RefusedBy kind f budget t q i
       on (Ending.solved n m) e h = absurd (true≢false (cc))
       on (Ending.spent n m) e h = absurd (true≢false (cc))
 
-      go : Told f budget t → RefusedBy f budget t q i
+      go : Told kind f budget t → RefusedBy kind f budget t q i
       go (turned-down q′ i′ e is) =
           let same : refused q′ i′ ≡ refused q i = sym (ap (λ x. x .answer) is) ∙ h in
           record { failed = e ∙ cc; left = ap (λ x. x .tables) is }
-      go (ran file lent is) = on (runWith f budget t) refl (rw is at h)
+      go (ran file lent is) = on (runWith kind f budget t) refl (rw is at h)
 
   -- an answer "solved" comes from a run that ends solved
-  pub solved-by : (c : Counts) → solution f budget t .answer ≡ solved c → SolvedBy f budget t c
+  pub solved-by : (c : Counts) → solution kind f budget t .answer ≡ solved c → SolvedBy kind f budget t c
   unfolding solutionOf
   solved-by c h = go told
     where
-      on : fileQuestions f ≡ passes → solveQuestions (problemOf f) budget t ≡ passes → (run : Ending) → runWith f budget t ≡ run
-          → solution f budget t ≡ solutionOf (problemOf f) (t .walk-list) (fine run) → SolvedBy f budget t c
+      on : fileQuestions f ≡ passes → solveQuestions (problemOf f) budget t ≡ passes → (run : Ending) → runWith kind f budget t ≡ run
+          → solution kind f budget t ≡ solutionOf (problemOf f) (t .walk-list) (fine run) → SolvedBy kind f budget t c
       on file lent (Ending.solved k m) run is =
           let these = counts k (m .evaluations) (leastCost (problemOf f) (byState (m .picks))) in
           let said : solved these ≡ solved c = sym (ap (λ x. x .answer) is) ∙ h in
@@ -197,55 +203,74 @@ module _ (f : List ℕ) (budget : ℕ) (t : Tables) where
           let never : spent (counts k (m .evaluations) 0) ≡ solved c = sym (ap (λ x. x .answer) is) ∙ h in
           absurd (true≢false (cc))
 
-      go : Told f budget t → SolvedBy f budget t c
+      go : Told kind f budget t → SolvedBy kind f budget t c
       go (turned-down q i failed is) =
           let never : refused q i ≡ solved c = sym (ap (λ x. x .answer) is) ∙ h in
           absurd (true≢false (cc))
-      go (ran file lent is) = on file lent (runWith f budget t) refl is
+      go (ran file lent is) = on file lent (runWith kind f budget t) refl is
 
   -- an answer "spent" comes from a run that has done every round of its budget
-  pub spent-budget : (c : Counts) → solution f budget t .answer ≡ spent c → c .rounds ≡ budget
+  pub spent-budget : (c : Counts) → solution kind f budget t .answer ≡ spent c → c .rounds ≡ budget
   unfolding solutionOf
   spent-budget c h = go told
     where
-      on : (run : Ending) → runWith f budget t ≡ run → solutionOf (problemOf f) (t .walk-list) (fine run) .answer ≡ spent c → c .rounds ≡ budget
+      on : (run : Ending) → runWith kind f budget t ≡ run → solutionOf (problemOf f) (t .walk-list) (fine run) .answer ≡ spent c
+          → c .rounds ≡ budget
       on (Ending.solved k m) run h = absurd (true≢false (cc))
       on (Ending.spent k m) run h =
           let these : counts k (m .evaluations) 0 ≡ c = cc in
           let same : k ≡ c .rounds = ap (λ (d : Counts). d .rounds) these in
-          omega (arith, run-spent (problemOf f) (problemOf f .tolerance) budget 0 _ k m run)
+          sym same ∙ whole-run-spent kind (problemOf f) budget (t .values) (t .picks) (t .remembered) k m run
 
-      go : Told f budget t → c .rounds ≡ budget
+      go : Told kind f budget t → c .rounds ≡ budget
       go (turned-down q i failed is) =
           let never : refused q i ≡ spent c = sym (ap (λ x. x .answer) is) ∙ h in
           absurd (true≢false (cc))
-      go (ran file lent is) = on (runWith f budget t) refl (rw is at h)
+      go (ran file lent is) = on (runWith kind f budget t) refl (rw is at h)
 
   -- number 14 never comes
-  pub never-fourteen : (r : ℕ) → solution f budget t .answer ≡ refused 14 r → ⊥
+  pub never-fourteen : (r : ℕ) → solution kind f budget t .answer ≡ refused 14 r → ⊥
   never-fourteen r h = omega (arith, early-number (early-questions f budget t) 14 r (refused-by 14 r h .failed) (omega arith))
 
   -- and its machine is final
-  pub solved-ends : {c : Counts} (by : SolvedBy f budget t c) → Final (problemOf f) (problemOf f .tolerance) (by .machine)
+  pub solved-ends : {c : Counts} (by : SolvedBy kind f budget t c) → Final (problemOf f) (lastTolerance kind (problemOf f)) (by .machine)
   solved-ends {c} by =
-      let p = problemOf f in
-      solved-final p (well-formed f (by .file)) (p .tolerance) budget 0 _ (c .rounds) (by .machine)
+      run-final kind (problemOf f) (well-formed f (by .file)) budget (t .values) (t .picks) (t .remembered) (c .rounds) (by .machine)
       (lent-sound f budget t (by .file) (by .lent)) (by .run)
 
   -- whatever the budget: the audit accepts what a solved run left, and gives the run's C
   pub answer-accepted
-      : (c : Counts) → solution f budget t .answer ≡ solved c
-      → audit f (solution f budget t .tables .values) (solution f budget t .tables .picks) ≡ accepted (c .least)
+      : (c : Counts) → solution kind f budget t .answer ≡ solved c
+      → audit f (solution kind f budget t .tables .values) (solution kind f budget t .tables .picks) ≡ accepted (c .least)
   answer-accepted c h =
       let by = solved-by c h in
-      rw (by .left) (final-passes-audit f (by .file) (by .machine) (solved-ends by) ∙ ap accepted (by .least))
+      let narrow = last-narrow kind (problemOf f) (well-formed f (by .file)) in
+      rw (by .left) (final-passes-audit f (by .file) (by .machine) narrow (solved-ends by) ∙ ap accepted (by .least))
 
   -- E1: and where its plan gives up no row costs as little
   pub answer-gives-up
-      : (c : Counts) → solution f budget t .answer ≡ solved c
-      → (s : ℕ) → Reached (problemOf f) (byState (solution f budget t .tables .picks)) s → problemOf f .goal s ≡ false
-      → byState (solution f budget t .tables .picks) s ≡ giveUp → (r : ℕ) → ownRow (problemOf f) s r ≡ true
-      → giveUpCost (problemOf f) < rowValue (problemOf f) (byState (solution f budget t .tables .values)) r
+      : (c : Counts) → solution kind f budget t .answer ≡ solved c
+      → (s : ℕ) → Reached (problemOf f) (byState (solution kind f budget t .tables .picks)) s → problemOf f .goal s ≡ false
+      → byState (solution kind f budget t .tables .picks) s ≡ giveUp → (r : ℕ) → ownRow (problemOf f) s r ≡ true
+      → giveUpCost (problemOf f) < rowValue (problemOf f) (byState (solution kind f budget t .tables .values)) r
   answer-gives-up c h =
       let by = solved-by c h in
-      rw (by .left) (final-gives-up (problemOf f) (well-formed f (by .file)) (problemOf f .tolerance) (by .machine) (solved-ends by))
+      rw (by .left) (final-gives-up (problemOf f) (well-formed f (by .file)) _ (by .machine) (solved-ends by))
+
+-- E8: where the plain run is spent the finishing run is the same, since it goes on only after a quiet round
+pub spent-the-same
+    : (f : List ℕ) (budget : ℕ) (t : Tables) (c : Counts) → solution Plain f budget t .answer ≡ spent c
+    → solution Finishing f budget t ≡ solution Plain f budget t
+unfolding solutionOf goesOn
+spent-the-same f budget t c h = go (told Plain f budget t)
+  where
+    on : (run : Ending) → solutionOf (problemOf f) (t .walk-list) (fine run) .answer ≡ spent c
+        → solutionOf (problemOf f) (t .walk-list) (fine (goesOn Finishing (problemOf f) budget run))
+        ≡ solutionOf (problemOf f) (t .walk-list) (fine run)
+    on (Ending.solved k m) h = absurd (true≢false (cc))
+    on (Ending.spent k m) h = refl
+
+    go : Told Plain f budget t → solution Finishing f budget t ≡ solution Plain f budget t
+    go (turned-down q i failed is) = solution-refused Finishing f budget t q i failed ∙ sym is
+    go (ran file lent is) =
+        solution-run f budget t file lent Finishing ∙ on (runWith Plain f budget t) (ap (λ x. x .answer) (sym is) ∙ h) ∙ sym is

@@ -1,7 +1,7 @@
 -- A solved run is accepted: questions 16 to 19 say yes of its values and picks.
 -- In its last round nothing rose and no pick changed, so each listed state was backed up under the final values and the final picks.
 use mathlib.Core.Path.{_≡_, refl, sym, _∙_, ap}
-use Prim.Native.Nat.{ℕ, _+_, _<_}
+use Prim.Native.Nat.{ℕ, _+_, _-_, _≤_, _<_}
 use native.Mathlib.Omega.{arith}
 use mathlib.Core.Bool.{true, false, true≢false}
 use mathlib.Core.List.{List, [], _∷_}
@@ -15,7 +15,10 @@ use Rattle.model.specs.Value.{rowValue, byState}
 use Rattle.model.specs.Walk.{In, here, there, walk, Reached, leastCost}
 use Rattle.model.specs.Sections.{problemOf}
 use Rattle.model.specs.Questions.{passes, fileQuestions}
-use Rattle.model.specs.Rounds.{Machine, scanOf, backup, backups, walked, round, runFrom, solved, Chosen, choice}
+use Rattle.model.specs.Rounds.{Machine, scanOf, backup, backups, walked, round, runFrom, Ending, solved, spent, Chosen, choice}
+use Rattle.model.specs.Rounds.{machineStart, goesOn, runOf}
+use Rattle.model.specs.declared.Kind.{Kind}
+use Rattle.model.specs.declared.Kind.the-variants.{Plain, Finishing}
 use Rattle.model.specs.Audit.{accepted, pickValue, audit}
 use Rattle.guarantee.specs.WellFormed.{WellFormed}
 use Rattle.guarantee.specs.Graphs.{in-cons, in-nil}
@@ -24,8 +27,8 @@ use Rattle.guarantee.specs.Rows.{row-no-mark}
 use Rattle.guarantee.specs.Choosing.{Landed, at-giving-up, at-row, OwnPick, landed-pick, choice-landed, gives-up-dear}
 use Rattle.guarantee.specs.Sound.{Sound, scan-law, backup-sound}
 use Rattle.guarantee.specs.Backups.{Open, Backed, rose, turned, rested}
-use Rattle.guarantee.specs.Backups.{backed, walk-opens, walked-sound, round-sound, round-list, run-quiet}
-use Rattle.guarantee.specs.Accepted.{AcceptsWithin, accepted-table, yes-audit}
+use Rattle.guarantee.specs.Backups.{backed, walk-opens, walked-sound, round-sound, round-list, run-quiet, spent-not-solved}
+use Rattle.guarantee.specs.Accepted.{AcceptsWithin, accepts-wider, accepted-table, yes-audit}
 
 -- a state that is at rest with tolerance e: its choice is its pick, and V(s) lies less than e below best
 pub record Rests (p : Problem) (e : ℕ) (values picks : List ℕ) (s : ℕ) : Type 0 where
@@ -154,16 +157,46 @@ module _ (p : Problem) (formed : WellFormed p) (e : ℕ) where
       let state = walk-opens p formed (byState (m .picks)) s listed .state in
       gives-up-dear p formed (byState (m .values)) s state (byState (m .picks) s) (final .rests s listed .same ∙ gives)
 
--- of a file: final tables pass its audit, which gives their C
+-- the tolerance that a run of some kind ends with
+abbrev pub lastTolerance : Kind → Problem → ℕ
+lastTolerance Plain p = p .tolerance
+lastTolerance Finishing p = 1
+
+pub last-narrow : (kind : Kind) (p : Problem) → WellFormed p → lastTolerance kind p ≤ p .tolerance
+last-narrow Plain p formed = omega arith
+last-narrow Finishing p formed = formed .tolerance-low
+
+-- so are the tables of either kind of run
+pub run-final
+    : (kind : Kind) (p : Problem) → WellFormed p → (budget : ℕ) (values picks remembered : List ℕ) (k : ℕ) (m : Machine)
+    → Sound p (machineStart p values picks remembered) → runOf kind p budget values picks remembered ≡ solved k m
+    → Final p (lastTolerance kind p) m
+unfolding goesOn
+run-final kind p formed budget values picks remembered k m sound q = go kind (runFrom p e budget true 0 start) refl q
+  where
+    e : ℕ
+    e = p .tolerance
+
+    start : Machine
+    start = machineStart p values picks remembered
+
+    go : (kind : Kind) (end : Ending) → runFrom p e budget true 0 start ≡ end → goesOn kind p budget end ≡ solved k m
+        → Final p (lastTolerance kind p) m
+    go Plain end run q = solved-final p formed e budget 0 start k m sound (run ∙ q)
+    go Finishing (spent n m₁) run q = absurd (spent-not-solved q)
+    go Finishing (solved n m₁) run q =
+        solved-final p formed 1 (budget - n) n m₁ k m (solved-final p formed e budget 0 start n m₁ sound run .sound) q
+
+-- of a file: final tables pass its audit, which gives their C, where its tolerance is no narrower
 pub final-passes-audit
-    : (f : List ℕ) → fileQuestions f ≡ passes → (m : Machine) → Final (problemOf f) (problemOf f .tolerance) m
+    : (f : List ℕ) → fileQuestions f ≡ passes → (m : Machine) {e : ℕ} → e ≤ problemOf f .tolerance → Final (problemOf f) e m
     → audit f (m .values) (m .picks) ≡ accepted (leastCost (problemOf f) (byState (m .picks)))
-final-passes-audit f file m final =
+final-passes-audit f file m wide final =
     let p = problemOf f in
     yes-audit f (m .values) (m .picks) (leastCost p (byState (m .picks)))
     (record {
       file-passes = file;
       values-long = final .sound .values-length;
       picks-long = final .sound .picks-length;
-      table-accepted = accepted-table p (byState (m .values)) (byState (m .picks)) _ (final .accepts);
+      table-accepted = accepted-table p (byState (m .values)) (byState (m .picks)) _ (accepts-wider p _ _ _ _ _ wide (final .accepts));
     })

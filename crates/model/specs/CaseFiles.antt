@@ -7,9 +7,10 @@ use Rattle.model.specs.Bytes.{numberBytes}
 use Rattle.model.specs.Limits.{thousandths, planRounds}
 use Rattle.model.specs.Problem.{Problem, Outcome}
 use Rattle.model.specs.Value.{byState, rowValue, rowRemainder}
-use Rattle.model.specs.Sections.{problemOf}
+use Rattle.model.specs.Sections.{atTolerance, problemOf}
 use Rattle.model.specs.Solution.{Tables, Solution, solved, solution}
 use Rattle.model.specs.declared.Follower.{Follower}
+use Rattle.model.specs.declared.Kind.the-variants.{Plain, Finishing}
 use Rattle.model.specs.Lines.{codes, planText}
 
 -- the parts of a small file, each with what follows it: settings with start 0, e 1 and D in two bytes; a state that is no goal,
@@ -113,11 +114,22 @@ abbrev pub lent : ℕ → Tables
 lent n = record { values = replicate n 7; picks = replicate n 7; remembered = replicate n 7; walk-list = replicate n 7 }
 
 abbrev pub planned : List ℕ → ℕ → Solution
-planned f n = solution f planRounds (lent n)
+planned f n = solution Plain f planRounds (lent n)
 
 -- what it prints of a file with n states
 abbrev pub printed : List ℕ → ℕ → List ℕ
 printed f n = planText (problemOf f) (planned f n)
+
+-- E8: the finishing run with some budget, and its text
+abbrev pub finishing : List ℕ → ℕ → ℕ → Solution
+finishing f budget n = solution Finishing f budget (lent n)
+
+abbrev pub finished : List ℕ → ℕ → ℕ → List ℕ
+finished f budget n = planText (problemOf f) (finishing f budget n)
+
+-- `rounding` with e 100
+abbrev pub coarse : List ℕ
+coarse = atTolerance 100 rounding
 
 -- P's answer: "0 370000 0 0", "1 300000 2 0"; no pick at the goal
 abbrev pub valuesP : List ℕ

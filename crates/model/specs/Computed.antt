@@ -4,14 +4,14 @@ use Rattle.model.specs.Bytes.{u16At, u32At, numberBytes}
 use Rattle.model.specs.Search.{first, sumTo}
 use Rattle.model.specs.Value.{weightedSum, totalWeight, rowValue, rowRemainder, pickRemainder}
 use Rattle.model.specs.Sections.{statesAt, rowsAt, outcomesAt, fileEnd, lengthSeconds, rateSeconds, secondsOn}
-use Rattle.model.specs.Sections.{outcomesFrom, problemOf}
+use Rattle.model.specs.Sections.{outcomesFrom, atTolerance, problemOf}
 use Rattle.model.specs.Questions.{sectionQuestions, endQuestion, layoutQuestions, settingQuestions, stateObeys}
 use Rattle.model.specs.Questions.{stateQuestion, startQuestion, rowNumberQuestion, costObeys, rowObeys, rowQuestion}
 use Rattle.model.specs.Questions.{outcomeNumberQuestion, outcomesObey, outcomeQuestion, undercutRow, undercutState}
 use Rattle.model.specs.Questions.{estimateQuestion, itemQuestions, fileQuestions}
 use Rattle.model.specs.Walk.{walk, visitState, visitOutcomes, next, leastCost, leastTo, pickCost}
 use Rattle.model.specs.Rounds.{beats, evaluateOn, settle, raiseOn, machineStart, fillTo, listTable}
-use Rattle.model.specs.Solution.{solution, solutionOn, solutionOf, solveQuestions, checkedRunFrom}
+use Rattle.model.specs.Solution.{solution, solutionOn, solutionOf, solveQuestions, checkedGoesOn, checkedRunFrom}
 use Rattle.model.specs.Solution.{checkedRound, checkedBackups, checkedBackup, checkedScan}
 use Rattle.model.specs.Rounds.{takenIf, othersFrom, traverse}
 use Rattle.model.specs.Solution.{checkedConsider, checkedConsiderOn, checkedEvaluate}
@@ -27,18 +27,18 @@ use Rattle.model.specs.Sheets.{rateLine, rateLines}
 use Rattle.model.specs.TableFiles.{entries16, tableBytes, listTo}
 use Rattle.model.specs.CaseFiles.{All}
 use Rattle.model.specs.Cases.{cases, others}
-use Rattle.model.specs.Requested.{requested, forms, totals}
+use Rattle.model.specs.Requested.{requested, forms, totals, finishings}
 
 infixr 40 _and_
 abbrev _and_ : {A B : Type 0} → A → B → A × B
 a and b = (a, b)
 
-computed : All cases × All others × All requested × All forms × All totals
+computed : All cases × All others × All requested × All forms × All totals × All finishings
 unfolding fileQuestions layoutQuestions sectionQuestions endQuestion settingQuestions itemQuestions stateQuestion stateObeys startQuestion
     rowNumberQuestion rowQuestion rowObeys costObeys outcomeNumberQuestion outcomeQuestion outcomesObey estimateQuestion undercutState
     undercutRow first sumTo rowValue rowRemainder pickRemainder weightedSum totalWeight problemOf statesAt rowsAt outcomesAt fileEnd
-    outcomesFrom lengthSeconds rateSeconds secondsOn u16At u32At
-    solution solutionOn solutionOf solveQuestions checkedRunFrom checkedRound checkedBackups checkedBackup checkedScan
+    outcomesFrom atTolerance lengthSeconds rateSeconds secondsOn u16At u32At
+    solution solutionOn solutionOf solveQuestions checkedGoesOn checkedRunFrom checkedRound checkedBackups checkedBackup checkedScan
     traverse othersFrom takenIf checkedConsider checkedConsiderOn checkedEvaluate beats evaluateOn settle raiseOn machineStart fillTo listTable
     walk visitState visitOutcomes next leastCost leastTo pickCost
     audit problemAudit tableQuestions unboundedState strayState slackState pickValue
@@ -59,6 +59,7 @@ computed = (
   refl and refl and refl and refl and refl and refl and refl and refl and tt,
   refl and refl and refl and refl and refl and refl and refl and refl and refl and refl and refl and refl
       and refl and refl and refl and refl and refl and refl and tt,
+  refl and refl and refl and refl and refl and refl and refl and refl and refl and refl and refl and refl and refl and tt,
 )
 
 pub cases-hold : All cases
@@ -75,3 +76,6 @@ forms-hold = computed .3
 
 pub totals-hold : All totals
 totals-hold = computed .4
+
+pub finishings-hold : All finishings
+finishings-hold = computed .5

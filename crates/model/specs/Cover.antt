@@ -45,14 +45,14 @@ abbrev pub allowanceOn : Bool → ℕ → ℕ
 allowanceOn true a = 0
 allowanceOn false a = a
 
--- "The rise allowance A is the sum over states that aren't goals of (1000 × D − H) / e, each rounded down": with tolerance e, over
--- the first k states
+-- "The rise allowance A is the sum over states that aren't goals of (1000 × D − H) / e, each rounded down": with any e, over the first k
+-- states, and over all
 unfoldable pub allowanceTo : Problem → ℕ → ℕ → ℕ
 allowanceTo p e zero = 0
 allowanceTo p e (suc k) = allowanceTo p e k + allowanceOn (p .goal k) ((giveUpCost p - p .estimate k) / e)
 
-unfoldable pub allowance : Problem → ℕ
-allowance p = allowanceTo p (p .tolerance) (p .states)
+unfoldable pub allowance : Problem → ℕ → ℕ
+allowance p e = allowanceTo p e (p .states)
 
 -- n, "the number of its states that aren't goals": of the first k states
 unfoldable pub openTo : Problem → ℕ → ℕ

@@ -9,9 +9,10 @@ use lib.IntN.{ℤ, pos}
 use Rattle.model.specs.Buffers.{copied, Writing}
 use Rattle.model.specs.Carried.{Said, passed, solved, spent, accepted, done, written, refused, Carried}
 use Rattle.model.specs.Answers.{answerCarries, followedCarries, wroteCarries}
-use Rattle.model.specs.Solution.{Tables, Solution}
+use Rattle.model.specs.Solution.{Tables, Solution, solution}
 use Rattle.model.specs.Following.{Report}
 use Rattle.model.specs.declared.Follower.{Follower}
+use Rattle.model.specs.declared.Kind.{Kind}
 
 -- what a call hands to C: its status, the entries at the front of `answer`, and what else is lent, as it is left
 pub record Handed (A L : Type 0) : Type 0 where
@@ -55,6 +56,11 @@ nothing = tt
 
 abbrev pub solutionHanded : Solution → Handed ℕ Tables
 solutionHanded s = handing (plainNumbers (answerCarries (s .answer))) (s .tables)
+
+-- solving a file by a run of some kind (E8)
+abbrev pub HandsSolution : Kind → List ℕ → ℕ → (lent left : Tables) (before after : List ℕ) → ℕ → Type 0
+HandsSolution kind f budget lent left before after status =
+    Hands (solutionHanded (solution kind f budget lent)) lent left before after status
 
 abbrev pub reportHanded : Report → Handed ℤ Follower
 reportHanded r = handing (signedNumbers (followedCarries (r .answer) (r .left))) (r .left)

@@ -2,15 +2,18 @@
 use mathlib.Core.Path.{_≡_}
 use Prim.Native.Nat.{_+_}
 use mathlib.Core.List.{List, [], _∷_, _++_}
-use lib.IntN.{pos}
+use lib.IntN.{pos, negsuc}
 use lib.ListN.{set, replicate, take}
+use Rattle.model.specs.Limits.{planRounds}
 use Rattle.model.specs.Value.{byState}
 use Rattle.model.specs.Sections.{lengthSeconds}
-use Rattle.model.specs.Sections.{problemOf}
+use Rattle.model.specs.Sections.{atTolerance, problemOf}
 use Rattle.model.specs.Questions.{passes, fails}
 use Rattle.model.specs.Questions.{fileQuestions}
 use Rattle.model.specs.Carried.{counts}
 use Rattle.model.specs.Solution.{solved, solution}
+use Rattle.model.specs.declared.Kind.the-variants.{Plain}
+use Rattle.model.specs.Audit.{accepted, refused as audit-refused, audit}
 use Rattle.model.specs.Following.{waySeconds, done, refused, opening}
 use Rattle.model.specs.Following.{report, reports, acceptedOf}
 use Rattle.model.specs.Lines.{codes, planText}
@@ -19,7 +22,8 @@ use Rattle.model.specs.Buffers.{written, refused as write-refused}
 use Rattle.model.specs.Sheets.{rateLines}
 use Rattle.model.specs.CaseFiles.{fileP}
 use Rattle.model.specs.CaseFiles.{rateP, penaltyP, tied, tiedTwice}
-use Rattle.model.specs.CaseFiles.{tiedLater, rounding, clogs, partnerP, formP, lent, planned, printed, valuesP}
+use Rattle.model.specs.CaseFiles.{tiedLater, rounding, coarse, clogs, partnerP, formP, lent, planned, printed, valuesP}
+use Rattle.model.specs.CaseFiles.{finishing, finished}
 use Rattle.model.specs.CaseFiles.{picksP, gives, valuesGives, at, two, remainderOf}
 
 -- the cases of document 02's requests
@@ -63,7 +67,7 @@ requested =
     ∷ (remainderOf (two 1 999) (999 ∷ 0 ∷ []) ≡ 999)
     ∷ (remainderOf (two 1 999) (1000 ∷ 0 ∷ []) ≡ 0)
     ∷ (printed rounding 2 ≡ codes "solved 8 8 1000\n0 1498 0 834\n")
-    ∷ (planText (problemOf rounding) (solution rounding 2 (lent 2)) ≡ codes "spent 2 2\n0 1333 0 889\n")
+    ∷ (planText (problemOf rounding) (solution Plain rounding 2 (lent 2)) ≡ codes "spent 2 2\n0 1333 0 889\n")
     -- E5: seconds that are rounded up, and some that come out even; the first two lines of a sheet
     ∷ (lengthSeconds 250 700 ≡ 215)
     ∷ (lengthSeconds 500 1000 ≡ 300)
@@ -108,4 +112,24 @@ totals =
     ∷ (fileQuestions (clogs 100 333 667) ≡ fails 10 0)
     ∷ (fileQuestions (clogs 10000 333 667) ≡ fails 10 0)
     ∷ (fileQuestions (clogs 4096 4097 0) ≡ fails 10 0)
+    ∷ []
+
+-- and those of E8: with e 100 the plain run ends 37 ticks under its pick, 1,000 + 333 × 1,443 / 1,000 being 1,480, which the audit takes
+-- under 100 and not under 1. The finishing run goes on to the tick, and both take it; with 4 rounds it is spent where the plain run is
+-- solved, with 2 before. P, which the plain run solves in 3 rounds to the tick, takes one more
+abbrev pub finishings : List (Type 0)
+finishings =
+    (finishing coarse planRounds 2 .answer ≡ solved (counts 9 9 1000))
+    ∷ (finishing coarse planRounds 2 .tables .picks ≡ 0 ∷ 65534 ∷ [])
+    ∷ (printed coarse 2 ≡ codes "solved 4 4 1000\n0 1443 0 519\n")
+    ∷ (audit coarse (1443 ∷ 0 ∷ []) (0 ∷ 65534 ∷ []) ≡ accepted 1000)
+    ∷ (audit (atTolerance 1 coarse) (1443 ∷ 0 ∷ []) (0 ∷ 65534 ∷ []) ≡ audit-refused 19 0 (negsuc 36))
+    ∷ (finished coarse planRounds 2 ≡ codes "solved 9 9 1000\n0 1498 0 834\n")
+    ∷ (audit coarse (1498 ∷ 0 ∷ []) (0 ∷ 65534 ∷ []) ≡ accepted 1000)
+    ∷ (audit (atTolerance 1 coarse) (1498 ∷ 0 ∷ []) (0 ∷ 65534 ∷ []) ≡ accepted 1000)
+    ∷ (finished coarse 8 2 ≡ codes "spent 8 8\n0 1498 0 834\n")
+    ∷ (finished coarse 4 2 ≡ codes "spent 4 4\n0 1443 0 519\n")
+    ∷ (finished coarse 2 2 ≡ codes "spent 2 2\n0 1333 0 889\n")
+    ∷ (finished fileP planRounds 3 ≡ codes "solved 4 7 100000\n0 370000 0 0\n1 300000 2 0\n")
+    ∷ (atTolerance 1 coarse ≡ rounding)
     ∷ []

@@ -8,6 +8,8 @@ use Rattle.model.specs.Limits.{giveUp, noPick, listEnd}
 use Rattle.model.specs.Problem.{Problem, giveUpCost, ownRow}
 use Rattle.model.specs.Value.{rowValue, byState}
 use Rattle.model.specs.Walk.{walk}
+use Rattle.model.specs.declared.Kind.{Kind}
+use Rattle.model.specs.declared.Kind.the-variants.{Plain, Finishing}
 
 -- a scan so far: best, the pick, the evaluations counted, and what each row remembers
 pub record Found : Type 0 where
@@ -150,9 +152,17 @@ machineStart p values picks remembered =
       moved = true;
     }
 
+-- Request E8: "A finishing run goes on, after the quiet round that would end it, with tolerance 1 until the next quiet round. .. Its counts
+-- run through both parts.", also where e is 1; one budget bounds both. "The plain run remains available."
+unfoldable pub goesOn : Kind → Problem → ℕ → Ending → Ending
+goesOn Plain p budget end = end
+goesOn Finishing p budget (spent n m) = spent n m
+goesOn Finishing p budget (solved n m) = runFrom p 1 (budget - n) true n m
+
 -- the run of a problem with a budget, from lent tables
-abbrev pub runOf : Problem → ℕ → List ℕ → List ℕ → List ℕ → Ending
-runOf p budget values picks remembered = runFrom p (p .tolerance) budget true 0 (machineStart p values picks remembered)
+abbrev pub runOf : Kind → Problem → ℕ → List ℕ → List ℕ → List ℕ → Ending
+runOf kind p budget values picks remembered =
+    goesOn kind p budget (runFrom p (p .tolerance) budget true 0 (machineStart p values picks remembered))
 
 -- "the walk list ending in 65,535s up to the number of states; in every table entries beyond stay"
 unfoldable pub listTable : ℕ → List ℕ → List ℕ → List ℕ

@@ -1,10 +1,10 @@
 -- The file: "Four sections in this order, each after its 16-bit count", and the problem that its bytes say.
 use Prim.Native.Nat.{ℕ, zero, suc, _+_, _-_, _*_, _/_}
 use mathlib.Core.Bool.{Bool, true, false}
-use mathlib.Core.List.{List, [], _∷_}
+use mathlib.Core.List.{List, [], _∷_, _++_}
 use lib.Dec.{eqb}
-use lib.ListN.{getD, drop}
-use Rattle.model.specs.Bytes.{u16At, u32At}
+use lib.ListN.{getD, take, drop}
+use Rattle.model.specs.Bytes.{u16At, u32At, numberBytes}
 use Rattle.model.specs.Limits.{minSettings, thousandths, millimetreSeconds, fileStick}
 use Rattle.model.specs.Problem.{Problem, Outcome}
 use Rattle.model.specs.Search.{sumTo}
@@ -27,8 +27,11 @@ unfoldable pub fileEnd : List ℕ → ℕ
 fileEnd f = sectionEnd 4 f (outcomesAt f)
 
 -- "32 bits each: start state; tolerance e in ticks; penalty D in seconds"
+abbrev pub settingAt : ℕ → ℕ
+settingAt k = 2 + 4 * k
+
 abbrev pub settingOf : List ℕ → ℕ → ℕ
-settingOf f k = u32At f (2 + 4 * k)
+settingOf f k = u32At f (settingAt k)
 
 -- Request E7: "Settings may have count 4, the fourth being the weight total W .. With count 3, W is 1,000."
 abbrev pub totalOn : Bool → ℕ → ℕ
@@ -99,6 +102,10 @@ outcomesFrom b i (suc k) = record { successor = u16At b (4 * i); weight = u16At 
 -- "Each row's outcomes are passed along as a part that starts inside the file."
 abbrev pub outcomesOf : List ℕ → ℕ → List Outcome
 outcomesOf f r = outcomesFrom (drop (outcomeAt f r) f) 0 (outcomeCountOf f r)
+
+-- a file with e in the bytes of its tolerance
+unfoldable pub atTolerance : ℕ → List ℕ → List ℕ
+atTolerance e f = take (settingAt 1) f ++ (numberBytes 4 e ++ drop (settingAt 2) f)
 
 unfoldable pub problemOf : List ℕ → Problem
 problemOf f =

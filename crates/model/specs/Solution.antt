@@ -1,6 +1,6 @@
 -- Solving a file: questions 12 to 14, the run with the check of question 14 at each evaluation, and what is handed back: the
 -- answer and the four lent tables as they are left.
-use Prim.Native.Nat.{ℕ, zero, suc}
+use Prim.Native.Nat.{ℕ, zero, suc, _-_}
 use mathlib.Core.Bool.{Bool, true, false}
 use mathlib.Core.List.{List, [], _∷_}
 use lib.Dec.{leb, ltb}
@@ -13,6 +13,8 @@ use Rattle.model.specs.Questions.{Verdict, passes, fails, _then_, ask, f
 use Rattle.model.specs.Walk.{walk, leastCost}
 use Rattle.model.specs.Carried.{counts}
 use Rattle.model.specs.declared.Counts.{Counts}
+use Rattle.model.specs.declared.Kind.{Kind}
+use Rattle.model.specs.declared.Kind.the-variants.{Plain, Finishing}
 use Rattle.model.specs.Rounds.{traverse}
 use Rattle.model.specs.Rounds.{Found, Machine, Ending, evaluate, skipped, scanStart, settle, walked, machineStart, listTable}
 
@@ -61,6 +63,15 @@ checkedRunFrom p e (suc budget) false n m = fine (Ending.solved n m)
 checkedRunFrom p e (suc budget) true n m =
     onwards (checkedRound p e m) (λ m′. checkedRunFrom p e budget (m′ .moved) (suc n) m′)
 
+unfoldable pub checkedGoesOn : Kind → Problem → ℕ → Ending → Checked Ending
+checkedGoesOn Plain p budget end = fine end
+checkedGoesOn Finishing p budget (Ending.spent n m) = fine (Ending.spent n m)
+checkedGoesOn Finishing p budget (Ending.solved n m) = checkedRunFrom p 1 (budget - n) true n m
+
+abbrev pub checkedRunOf : Kind → Problem → ℕ → List ℕ → List ℕ → List ℕ → Checked Ending
+checkedRunOf kind p budget values picks remembered =
+    onwards (checkedRunFrom p (p .tolerance) budget true 0 (machineStart p values picks remembered)) (checkedGoesOn kind p budget)
+
 -- "Lent tables: values and picks per state, remembered values per row, walk list per state."
 pub record Tables : Type 0 where
   pub values : List ℕ
@@ -108,12 +119,11 @@ solveQuestions p budget t =
     then ask 13 0 (leb budget maxBudget)
 
 -- "A no ends the call with the number and a place; no table has changed, but for 14."
-unfoldable pub solutionOn : Verdict → Problem → ℕ → Tables → Solution
-solutionOn passes p budget t =
-    solutionOf p (t .walk-list)
-    (checkedRunFrom p (p .tolerance) budget true 0 (machineStart p (t .values) (t .picks) (t .remembered)))
-solutionOn (fails q i) p budget t = record { answer = refused q i; tables = t }
+unfoldable pub solutionOn : Verdict → Kind → Problem → ℕ → Tables → Solution
+solutionOn passes kind p budget t =
+    solutionOf p (t .walk-list) (checkedRunOf kind p budget (t .values) (t .picks) (t .remembered))
+solutionOn (fails q i) kind p budget t = record { answer = refused q i; tables = t }
 
--- solving a file with a budget and four lent tables
-unfoldable pub solution : List ℕ → ℕ → Tables → Solution
-solution f budget t = solutionOn (fileQuestions f then solveQuestions (problemOf f) budget t) (problemOf f) budget t
+-- solving a file by a run of some kind, with a budget and four lent tables
+unfoldable pub solution : Kind → List ℕ → ℕ → Tables → Solution
+solution kind f budget t = solutionOn (fileQuestions f then solveQuestions (problemOf f) budget t) kind (problemOf f) budget t

@@ -74,6 +74,12 @@ pub enum FileAnswer {
     Refused { question: u8, place: u32 },
 }
 
+// Which run: the plain one ends with a quiet round, the finishing one goes on from there, to the tick.
+pub enum Kind {
+    Plain,
+    Finishing,
+}
+
 // What a run counts: rounds done, evaluations, and C, 0 if spent.
 pub struct Counts {
     pub rounds: u64,

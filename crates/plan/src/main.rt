@@ -1,11 +1,12 @@
 // The program `plan`: reads a problem file from standard input, runs up to 1,000,000 rounds, and prints the plan, a line for each
-// state of the last walk, by state number. With two names it also writes the tables of the run to files of these names; names that cannot
-// take them are refused before the run.
+// state of the last walk, by state number. With `--finish` the run goes on to the tick. With two names it also writes the tables of the run
+// to files of these names; names that cannot take them are refused before the run.
 use libc::ENOENT;
 use libc::SEEK_CUR;
 use libc::STDERR_FILENO;
 use libc::STDIN_FILENO;
 use libc::STDOUT_FILENO;
+use model::Kind;
 use model::MAX_STATES;
 use model::NO_PICK;
 use model::PLAN_ROOM;
@@ -315,8 +316,9 @@ fn save(name: &[u8], values: &[u32], name2: &[u8], picks: &[u16])
     place(name2, &second[..j]);
 }
 
-// Plans the input, and saves its values and picks under two names. A file is at most 55,320 bytes long, and a longer input gets the same answer as its first 65,536 bytes (`Plans`).
-fn plan_input(is_saving: bool, name: &[u8], name2: &[u8])
+// Plans the input by a run of some kind, and saves its values and picks under two names. A file is at most 55,320 bytes long, and a longer
+// input gets the same answer as its first 65,536 bytes (`Plans`).
+fn plan_input(kind: Kind, is_saving: bool, name: &[u8], name2: &[u8])
     requires { ⌜ Named (now name) (now name2) ⌝ }
 {
     let mut file = io::large_buffer();
@@ -332,7 +334,7 @@ fn plan_input(is_saving: bool, name: &[u8], name2: &[u8])
     let mut values = [0u32; MAX_STATES];
     let mut picks = [NO_PICK; MAX_STATES];
     let mut out = [0u8; PLAN_ROOM];
-    let planned = programs::plan(&file, n, &mut values, &mut picks, &mut out);
+    let planned = programs::plan(kind, &file, n, &mut values, &mut picks, &mut out);
     let length = planned.length;
     let states = planned.states;
     if !io::write_all(STDOUT_FILENO, &out[..length]) {
@@ -343,32 +345,50 @@ fn plan_input(is_saving: bool, name: &[u8], name2: &[u8])
     }
 }
 
-// Plans with the two names that were given. They are looked at before the run.
-fn plan_named() {
+// Plans with the two names that were given, arguments `i` and `j`. They are looked at before the run.
+fn plan_named(kind: Kind, i: usize, j: usize) {
     let mut first = io::buffer();
-    let n = os::arg(1, &mut first);
+    let n = os::arg(i, &mut first);
     if os::errno() != 0 {
         fail(b"plan", b"VALUES");
         return;
     }
     let mut second = io::buffer();
-    let m = os::arg(2, &mut second);
+    let m = os::arg(j, &mut second);
     if os::errno() != 0 {
         fail(b"plan", b"PICKS");
         return;
     }
-    plan_input(true, &first[..n], &second[..m]);
+    plan_input(kind, true, &first[..n], &second[..m]);
+}
+
+// Plans by a run of some kind. What it is given besides, from argument `at` on, is nothing or two names.
+fn plan_by(kind: Kind, at: usize, count: usize) {
+    if count <= at {
+        plan_input(kind, false, b"", b"");
+        return;
+    }
+    if count - at == 2 && are_names(at, count) {
+        plan_named(kind, at, at + 1);
+        return;
+    }
+    complain(
+        b"plan: give no names, or two: VALUES PICKS, after --finish where the run shall finish\n",
+    );
+}
+
+// Whether the first argument is `--finish`.
+fn is_finishing() -> bool {
+    let mut word = [0u8; 8];
+    let n = os::arg(1, &mut word);
+    are_equal(&word[..n], b"--finish")
 }
 
 fn main() {
     let count = os::arg_count();
-    if count == 3 && are_names(count) {
-        plan_named();
-        return;
+    if is_finishing() {
+        plan_by(Kind::Finishing, 2, count);
+    } else {
+        plan_by(Kind::Plain, 1, count);
     }
-    if count < 2 {
-        plan_input(false, b"", b"");
-        return;
-    }
-    complain(b"plan: give no names, or two: VALUES PICKS\n");
 }

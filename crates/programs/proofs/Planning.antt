@@ -18,6 +18,7 @@ use Rattle.model.specs.Promises.{planSolution, Plans, Audits}
 use Rattle.model.specs.Questions.{Verdict, passes, fails, fileQuestions, layoutQuestions}
 use Rattle.model.specs.Sections.{problemOf}
 use Rattle.model.specs.declared.Counts.{Counts}
+use Rattle.model.specs.declared.Kind.{Kind}
 use Rattle.model.specs.Solution.{Answer, solved, spent, refused, Tables, tables, solution}
 use Rattle.model.specs.TableFiles.{entries16, entries32}
 use Rattle.model.specs.Value.{byState}
@@ -38,9 +39,9 @@ use Rattle.programs.proofs.Remaining.{table-entry, line-remainder, line
 module _ {f : List ℕ} {a : Answer} (s : AnswerFor f a) where
   run-passes : ((q i : ℕ) → a ≡ refused q i → ⊥) → layoutQuestions f ≡ passes
   unfolding fileQuestions
-  run-passes never = go (told f (s .budget) (s .lent))
+  run-passes never = go (told (s .kind) f (s .budget) (s .lent))
     where
-      go : Told f (s .budget) (s .lent) → layoutQuestions f ≡ passes
+      go : Told (s .kind) f (s .budget) (s .lent) → layoutQuestions f ≡ passes
       go (turned-down q i e is) = absurd (never q i (s .answer-is ∙ ap (λ x. x .answer) is))
       go (ran file lent is) = then-first (layoutQuestions f) _ file
 
@@ -70,11 +71,11 @@ unfolding runStates
 run-none a q i n e = rw e refl
 
 pub run-room
-    : (f : List ℕ) (budget : ℕ) {t : Tables} {a : Answer} {k : ℕ} → a ≡ solution f budget t .answer
+    : (kind : Kind) (f : List ℕ) (budget : ℕ) {t : Tables} {a : Answer} {k : ℕ} → a ≡ solution kind f budget t .answer
     → k ≡ runStates a (problemOf f .states) → Room f t k
-run-room f budget {t} {a} {k} is e = go (told f budget t)
+run-room kind f budget {t} {a} {k} is e = go (told kind f budget t)
   where
-    go : Told f budget t → Room f t k
+    go : Told kind f budget t → Room f t k
     go (turned-down q i failed s) =
         let z : k ≡ 0 = e ∙ run-none a q i (problemOf f .states) (is ∙ ap (λ x. x .answer) s) in
         record {
@@ -108,9 +109,9 @@ planTables values picks = tables values picks (replicate maxRows 0) (replicate m
 
 -- tables of as many entries as a file can have states, and the tables of the program's own, are refused no file
 refused-by-file
-    : (f values picks : List ℕ) → length values ≡ maxStates → length picks ≡ maxStates → (q i : ℕ)
-    → planSolution f values picks .answer ≡ refused q i → fileQuestions f ≡ fails q i
-refused-by-file f values picks v p q i h = go (fileQuestions f) refl
+    : (kind : Kind) (f values picks : List ℕ) → length values ≡ maxStates → length picks ≡ maxStates → (q i : ℕ)
+    → planSolution kind f values picks .answer ≡ refused q i → fileQuestions f ≡ fails q i
+refused-by-file kind f values picks v p q i h = go (fileQuestions f) refl
   where
     t : Tables
     t = planTables values picks
@@ -127,43 +128,43 @@ refused-by-file f values picks v p q i h = go (fileQuestions f) refl
           list-long = omega (arith, formed .states-high, length-replicate {A = ℕ} maxStates listEnd);
           budget-high = omega arith;
         }) in
-        let failed = refused-by f planRounds t q i h .failed in
+        let failed = refused-by kind f planRounds t q i h .failed in
         let never : passes ≡ fails q i = rw (e, lent) at failed in
         absurd (true≢false (cc))
-    go (fails r j) e = let failed = refused-by f planRounds t q i h .failed in e ∙ rw e at failed
+    go (fails r j) e = let failed = refused-by kind f planRounds t q i h .failed in e ∙ rw e at failed
 
 -- what was put is the text of the plan
-module _ (f values picks : List ℕ) {values′ picks′ remembered′ walk′ : List ℕ} {a : Answer} {k : ℕ}
-    (answer-is : a ≡ planSolution f values picks .answer)
-    (left-is : tables values′ picks′ remembered′ walk′ ≡ planSolution f values picks .tables)
+module _ (kind : Kind) (f values picks : List ℕ) {values′ picks′ remembered′ walk′ : List ℕ} {a : Answer} {k : ℕ}
+    (answer-is : a ≡ planSolution kind f values picks .answer)
+    (left-is : tables values′ picks′ remembered′ walk′ ≡ planSolution kind f values picks .tables)
     (e : k ≡ runStates a (problemOf f .states)) (within : k ≤ length walk′)
     {remainders : List ℕ} (remainders-are : RemaindersTo f values′ picks′ k remainders) where
   abbrev put-text : List ℕ
   put-text = runText a values′ picks′ (byState remainders) (take k walk′) (length (take k walk′))
 
-  text-is : put-text ≡ planText (problemOf f) (planSolution f values picks)
+  text-is : put-text ≡ planText (problemOf f) (planSolution kind f values picks)
   unfolding planText
   text-is =
-      let s = planSolution f values picks in
+      let s = planSolution kind f values picks in
       let t = s .tables in
       let v : values′ ≡ t .values = ap (λ t. t .values) left-is in
       let p : picks′ ≡ t .picks = ap (λ t. t .picks) left-is in
       let w : walk′ ≡ t .walk-list = ap (λ t. t .walk-list) left-is in
       let n = runStates (s .answer) (problemOf f .states) in
       let same : k ≡ n = e ∙ rw answer-is refl in
-      let few : n ≤ maxStates = rw (← same) (run-room f planRounds answer-is e .few) in
+      let few : n ≤ maxStates = rw (← same) (run-room kind f planRounds answer-is e .few) in
       let filled : RemaindersTo f (t .values) (t .picks) n remainders = rw (← v, ← p, ← same) remainders-are in
       let lines =
       lines-same (t .values) (t .picks) (byState remainders) (remaindersOf (problemOf f) (t .values) (t .picks)) (take n (t .walk-list)) n
-      (λ q l h. table-entry filled q few l ∙ line-remainder f (t .values) _ q (lines-pick f planRounds _ q (l, h))) in
+      (λ q l h. table-entry filled q few l ∙ line-remainder f (t .values) _ q (lines-pick kind f planRounds _ q (l, h))) in
       rw (length-take-le k walk′ within, same, answer-is, v, p, w) (ap (λ l. answerLine (s .answer) ++ l) lines)
 
   pub plans
       : {out out′ : List ℕ} {size : ℕ} → length values ≡ maxStates → length picks ≡ maxStates → planRoom ≤ length out
       → length values′ ≡ length values → length picks′ ≡ length picks → Holds out out′ size put-text
-      → Brief put-text (length (take k walk′)) → Plans f values picks out values′ picks′ out′ size k
+      → Brief put-text (length (take k walk′)) → Plans kind f values picks out values′ picks′ out′ size k
   plans {out} {out′} {size} v p wide lv lp text short =
-      let room = run-room f planRounds answer-is e in
+      let room = run-room kind f planRounds answer-is e in
       let size-is = length-take-le k walk′ within in
       let fits = rw text-is at (short (omega (arith, size-is, room .few))) in
       let put = same text-is text in
@@ -172,7 +173,7 @@ module _ (f values picks : List ℕ) {values′ picks′ remembered′ walk′ :
         whole = uncut put (omega (arith, fits, size-is, room .few));
         values-are = ap (λ t. t .values) left-is;
         picks-are = ap (λ t. t .picks) left-is;
-        refused-by = refused-by-file f values picks v p;
+        refused-by = refused-by-file kind f values picks v p;
         states-are = rw (← answer-is) e;
         values-hold = omega (arith, room .values-room, lv);
         picks-hold = omega (arith, room .picks-room, lp);
@@ -189,21 +190,22 @@ read-front f buffer n long read is = rw (← long) (is ∙ sym read)
 
 -- what was read of an input has the plan of the whole input
 pub plans-read
-    : (f : List ℕ) {bytes values picks out values′ picks′ out′ : List ℕ} {N size states : ℕ} → longestFile < N → bytes ≡ take N f
-    → Plans bytes values picks out values′ picks′ out′ size states → Plans f values picks out values′ picks′ out′ size states
-plans-read f {bytes} {values} {picks} {N = N} long same h =
+    : (f : List ℕ) {kind : Kind} {bytes values picks out values′ picks′ out′ : List ℕ} {N size states : ℕ} → longestFile < N
+    → bytes ≡ take N f
+    → Plans kind bytes values picks out values′ picks′ out′ size states → Plans kind f values picks out values′ picks′ out′ size states
+plans-read f {kind} {bytes} {values} {picks} {N = N} long same h =
     let t = planTables values picks in
     let k = rw same at h in
-    let text = plan-front N f long planRounds t in
-    let left = ap (λ x. x .tables) (solution-front N f long planRounds t) in
+    let text = plan-front N f long kind planRounds t in
+    let left = ap (λ x. x .tables) (solution-front N f long kind planRounds t) in
     record {
       text = rw text at (k .text);
       whole = k .whole ∙ text;
       values-are = k .values-are ∙ ap (λ x. x .values) left;
       picks-are = k .picks-are ∙ ap (λ x. x .picks) left;
       refused-by = λ q i e.
-          sym (questions-front N f long) ∙ k .refused-by q i (ap (λ x. x .answer) (solution-front N f long planRounds t) ∙ e);
-      states-are = k .states-are ∙ states-front N f long planRounds t;
+          sym (questions-front N f long) ∙ k .refused-by q i (ap (λ x. x .answer) (solution-front N f long kind planRounds t) ∙ e);
+      states-are = k .states-are ∙ states-front N f long kind planRounds t;
       values-hold = k .values-hold;
       picks-hold = k .picks-hold;
     }

@@ -12,6 +12,7 @@ use Rattle.model.specs.Promises.{Leaves}
 use Rattle.model.specs.Rounds.{fillTo}
 use Rattle.model.specs.Search.{oneOf}
 use Rattle.model.specs.Sections.{problemOf}
+use Rattle.model.specs.declared.Kind.{Kind}
 use Rattle.model.specs.Solution.{Tables, solution}
 use Rattle.model.specs.Value.{byState, pickRemainderOn}
 use Rattle.reading.specs.Ready.{Ready}
@@ -43,7 +44,7 @@ pub record RunReady (f index values picks : List ℕ) (n : ℕ) : Type 0 where
   pub few : n ≤ maxStates
 
 -- a run of `plan`: its answer and its tables, the number of its states, and the remainders under the values that it left
-pub record RunDone (f : List ℕ) (t t′ : Tables) (r : Ran) : Type 0 where
-  pub leaves : Leaves (solveCarries (r .answer)) t′ (solution f planRounds t)
+pub record RunDone (kind : Kind) (f : List ℕ) (t t′ : Tables) (r : Ran) : Type 0 where
+  pub leaves : Leaves (solveCarries (r .answer)) t′ (solution kind f planRounds t)
   pub states-are : r .states ≡ runStates (answerOf (r .answer)) (problemOf f .states)
   pub remainders-are : RemaindersTo f (t′ .values) (t′ .picks) (r .states) (r .remainders)

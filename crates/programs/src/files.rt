@@ -93,9 +93,10 @@ fn is_dashed(i: usize) -> bool {
     front[0] == b'-'
 }
 
-// Whether all arguments, `count` with the program's own name, may be names: no name begins with `-`, since it may be meant otherwise.
-pub fn are_names(count: usize) -> bool {
-    let mut i = 1;
+// Whether the arguments from `first` on, of `count` with the program's own name, may be names: no name begins with `-`, since it may be
+// meant otherwise.
+pub fn are_names(first: usize, count: usize) -> bool {
+    let mut i = first;
     while i < count {
         if is_dashed(i) {
             return false;

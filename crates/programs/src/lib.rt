@@ -5,6 +5,7 @@ pub mod files;
 mod remainders;
 
 use crate::remainders::remainders_of;
+use model::Kind;
 use model::LINE_MOST;
 use model::LIST_END;
 use model::MAX_ROWS;
@@ -83,6 +84,7 @@ struct Ran {
 
 // Solves a file with the rounds that `plan` has. The remainders are those under the values that the run left.
 fn run(
+    kind: Kind,
     file: &[u8],
     values: &mut [u32],
     picks: &mut [u16],
@@ -91,11 +93,12 @@ fn run(
 ) -> Ran
     ensures { λ r.
         ⌜ RunDone
-        (now (file .entry)) (tables (now (values .entry)) (now (picks .entry)) (now (remembered .entry)) (now (walk .entry)))
+        kind (now (file .entry)) (tables (now (values .entry)) (now (picks .entry)) (now (remembered .entry)) (now (walk .entry)))
         (tables (now (values .exit)) (now (picks .exit)) (now (remembered .exit)) (now (walk .exit))) r ⌝ }
 {
     let mut index = [0u32; INDEX];
     let answer = solve_file(
+        kind,
         file,
         PLAN_ROUNDS,
         values,
@@ -113,8 +116,10 @@ fn run(
     }
 }
 
-// Plans an input of which `read` bytes are in `file`: its text stands at the front of `out`, its tables in `values` and `picks`.
+// Plans an input of which `read` bytes are in `file`, by a run of some kind: its text stands at the front of `out`, its tables in `values` and
+// `picks`.
 pub fn plan(
+    kind: Kind,
     file: &[u8; FILE_ROOM],
     read: usize,
     values: &mut [u32; MAX_STATES],
@@ -124,12 +129,19 @@ pub fn plan(
     ensures { λ r.
         ⌜ ((f : List ℕ) → ReadOf f (now (file .entry)) read →
         Plans
-        f (now (values .entry)) (now (picks .entry)) (now (out .entry)) (now (values .exit)) (now (picks .exit))
+        kind f (now (values .entry)) (now (picks .entry)) (now (out .entry)) (now (values .exit)) (now (picks .exit))
         (now (out .exit)) (r .length) (r .states)) ⌝ }
 {
     let mut remembered = [0u32; MAX_ROWS];
     let mut walk = [LIST_END; MAX_STATES];
-    let ran = run(front(file, read), values, picks, &mut remembered, &mut walk);
+    let ran = run(
+        kind,
+        front(file, read),
+        values,
+        picks,
+        &mut remembered,
+        &mut walk,
+    );
     let states = ran.states;
     let length = plan_text(
         ran.answer,

@@ -1,20 +1,21 @@
 -- From the questions to the answer: what questions 1 to 13 give, how the tables begin, and that a run's end is the solution.
 -- The check of question 14 never says no, so the solution is that of the run without it.
 use mathlib.Core.Path.{_≡_, refl, sym, _∙_, ap, subst}
-use Prim.Native.Nat.{ℕ, _-_, _<_}
+use Prim.Native.Nat.{ℕ, _<_}
 use native.Mathlib.Omega.{arith}
-use mathlib.Core.Bool.{Bool, true, false, not}
+use mathlib.Core.Bool.{Bool, true, false}
 use mathlib.Core.List.{List, []}
 use lib.IntN.{pos}
 use lib.ListN.{length, take}
-use Rattle.model.specs.Carried.{Carried, noCounts, refusal}
+use Rattle.model.specs.Carried.{Carried, refusal}
 use Rattle.model.specs.Limits.{noPick}
 use Rattle.model.specs.Problem.{Problem}
 use Rattle.model.specs.Promises.{Leaves}
 use Rattle.model.specs.Questions.{passes, fails, fileQuestions}
 use Rattle.model.specs.Sections.{problemOf}
 use Rattle.model.specs.Value.{rowValue, byState}
-use Rattle.model.specs.Rounds.{Machine, runFrom, runOf, fillTo, machineStart, listTable}
+use Rattle.model.specs.Rounds.{Machine, runFrom, goesOn, runOf, fillTo, machineStart, listTable}
+use Rattle.model.specs.declared.Kind.{Kind}
 use Rattle.model.specs.Solution.{Tables, tables, fine, solutionOf, solveQuestions, solution}
 use Rattle.guarantee.specs.WellFormed.{WellFormed}
 use Rattle.guarantee.specs.WellFormed.{well-formed}
@@ -104,30 +105,28 @@ module _ {f index : List ℕ} {budget : ℕ} {t : Tables} {states rows : ℕ} {v
       }
 
   -- the run's end, once the walk list is ended
-  module _ {e : ℕ} {t″ : Tables} {from d : Ended} (tolerance : e ≡ problemOf f .tolerance)
-      (first : (from .counts ≡ noCounts) × (from .listed ≡ 0))
-      (ran : Ran (problemOf f) e budget from (tables values′ picks′ remembered′ (t .walk-list)) t″ d) where
+  module _ {kind : Kind} {e : ℕ} {t″ : Tables} {d : Ended} (tolerance : e ≡ problemOf f .tolerance)
+      (ran : Ran kind (problemOf f) e budget (tables values′ picks′ remembered′ (t .walk-list)) t″ d) where
     abbrev last : Machine
-    last = machineWith t″ (take (d .listed) (t″ .walk-list)) (d .counts .evaluations) (not (d .solved))
+    last = machineWith t″ (take (d .listed) (t″ .walk-list)) (d .counts .evaluations) (ran .moved)
 
-    run-is : runOf (problemOf f) budget (t .values) (t .picks) (t .remembered) ≡ endedAs (d .solved) (d .counts .rounds) last
+    run-is : runOf kind (problemOf f) budget (t .values) (t .picks) (t .remembered) ≡ endedAs (d .solved) (d .counts .rounds) last
     run-is =
-        ap (λ m. runFrom (problemOf f) (problemOf f .tolerance) budget true 0 m) (sym begun)
-        ∙ (ap (λ x. runFrom (problemOf f) x budget true 0 (machine values′ picks′ remembered′ [] 0 true)) (sym tolerance) ∙ went)
-      where
-        went
-            : runFrom (problemOf f) e budget true 0 (machine values′ picks′ remembered′ [] 0 true) ≡ endedAs (d .solved) (d .counts .rounds) last
-        went = let z : budget - 0 ≡ budget = omega arith in rw z at (rw (first .0, first .1) at (ran .ends))
+        let p = problemOf f in
+        ap (λ m. goesOn kind p budget (runFrom p (p .tolerance) budget true 0 m)) (sym begun)
+        ∙ ap (λ x. goesOn kind p budget (runFrom p x budget true 0 (machine values′ picks′ remembered′ [] 0 true))) (sym tolerance)
+        ∙ ran .ends
 
-    solution-is : solution f budget t ≡ solutionOf (problemOf f) (t .walk-list) (fine (endedAs (d .solved) (d .counts .rounds) last))
+    solution-is
+        : solution kind f budget t ≡ solutionOf (problemOf f) (t .walk-list) (fine (endedAs (d .solved) (d .counts .rounds) last))
     solution-is =
-        solution-run f budget t (h .solvable .file-passes) (h .solvable .tables-pass)
+        solution-run f budget t (h .solvable .file-passes) (h .solvable .tables-pass) kind
         ∙ ap (λ r. solutionOf (problemOf f) (t .walk-list) (fine r)) run-is
 
     pub run-leaves
         : {carried : Carried} {list‴ : List ℕ} → list‴ ≡ listTable states (take (d .listed) (t″ .walk-list)) (t″ .walk-list)
         → carried ≡ runCarries (d .solved) (d .counts)
-        → Leaves carried (tables (t″ .values) (t″ .picks) (t″ .remembered) list‴) (solution f budget t)
+        → Leaves carried (tables (t″ .values) (t″ .picks) (t″ .remembered) list‴) (solution kind f budget t)
     unfolding solutionOf
     run-leaves {carried} {list‴} padded carries =
         rw solution-is (go (d .solved) refl carries)
@@ -146,17 +145,17 @@ module _ {f index : List ℕ} {budget : ℕ} {t : Tables} {states rows : ℕ} {v
 
 -- a no to questions 1 to 13: "no table has changed"
 refusal-leaves
-    : (f : List ℕ) (budget : ℕ) (t : Tables) (q i : ℕ) → questions f budget t ≡ fails q i
-    → Leaves (refusal q i (pos 0)) t (solution f budget t)
-refusal-leaves f budget t q i h = rw (solution-refused f budget t q i h) (record { answer = refl; left = refl })
+    : (kind : Kind) (f : List ℕ) (budget : ℕ) (t : Tables) (q i : ℕ) → questions f budget t ≡ fails q i
+    → Leaves (refusal q i (pos 0)) t (solution kind f budget t)
+refusal-leaves kind f budget t q i h = rw (solution-refused kind f budget t q i h) (record { answer = refl; left = refl })
 
-module _ (f : List ℕ) (budget : ℕ) (t : Tables) {q i : ℕ} where
-  pub file-refused : fails q i ≡ fileQuestions f → Leaves (refusal q i (pos 0)) t (solution f budget t)
-  file-refused h = refusal-leaves f budget t q i (rw (← h) refl)
+module _ (kind : Kind) (f : List ℕ) (budget : ℕ) (t : Tables) {q i : ℕ} where
+  pub file-refused : fails q i ≡ fileQuestions f → Leaves (refusal q i (pos 0)) t (solution kind f budget t)
+  file-refused h = refusal-leaves kind f budget t q i (rw (← h) refl)
 
   pub tables-refused : passes ≡ fileQuestions f → fails q i ≡ solveQuestions (problemOf f) budget t
-      → Leaves (refusal q i (pos 0)) t (solution f budget t)
-  tables-refused h k = refusal-leaves f budget t q i (rw (← h) (sym k))
+      → Leaves (refusal q i (pos 0)) t (solution kind f budget t)
+  tables-refused h k = refusal-leaves kind f budget t q i (rw (← h) (sym k))
 
 -- questions 12 and 13 as tests of lengths
 pub tests-are

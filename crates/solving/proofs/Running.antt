@@ -15,8 +15,9 @@ use Rattle.model.specs.Problem.{Problem, ownRow}
 use Rattle.model.specs.Sections.{problemOf}
 use Rattle.model.specs.Value.{byState}
 use Rattle.model.specs.Walk.{Reached, walk, leastTo, leastCost}
-use Rattle.model.specs.Rounds.{Machine, backups, round, walked, Ending, runFrom}
+use Rattle.model.specs.Rounds.{Machine, backups, round, walked, Ending, runFrom, goesOn}
 use Rattle.model.specs.Solution.{Tables, tables}
+use Rattle.model.specs.declared.Kind.{Kind}
 use Rattle.guarantee.specs.Accepted.{AcceptsWithin}
 use Rattle.guarantee.specs.Sound.{Sound}
 use Rattle.guarantee.specs.Backups.{walk-opens, round-sound, run-stops}
@@ -28,8 +29,7 @@ use Rattle.walking.specs.Costs.{Costed}
 use Rattle.walking.specs.Walked.{Walked, walked-start, walked-costed, walked-least}
 use Rattle.backing.specs.Backable.{countBound, machine, Backable, Listed}
 use Rattle.solving.specs.declared.run.RoundDone.{RoundDone}
-use Rattle.solving.specs.declared.run.Ended.{Ended}
-use Rattle.solving.specs.Runs.{machineWith, endedAs, Runnable, Rounded, Begun}
+use Rattle.solving.specs.Runs.{machineWith, endedAs, goingOn, Runnable, Rounded}
 
 module _ {f index : List ℕ} {t : Tables} (h : Runnable f index t) where
   abbrev p : Problem
@@ -116,33 +116,49 @@ module _ {f index : List ℕ} {t : Tables} (h : Runnable f index t) where
           no-row = no-row;
         }
 
--- the loop over rounds: what is left of the run gives w
+-- the loop over rounds: what is left of the run, of this part and of the other where it is to go on, gives w
 pub record RunLeft
-    (f index : List ℕ) (e budget : ℕ) (w : Ending) (list₀ : List ℕ) (t : Tables) (rounds count listed : ℕ) : Type 0 where
+    (f index : List ℕ) (budget : ℕ) (w : Ending) (list₀ : List ℕ) (t : Tables) (goes-on : Bool) (e rounds count listed : ℕ) : Type 0 where
   pub runnable : Runnable f index t
   pub within : rounds ≤ budget
-  pub left : runFrom (problemOf f) e (budget - rounds) true rounds (machineWith t (take listed (t .walk-list)) count true) ≡ w
+  pub moved : Bool
+  pub left
+      : goesOn (goingOn goes-on) (problemOf f) budget
+      (runFrom (problemOf f) e (budget - rounds) true rounds (machineWith t (take listed (t .walk-list)) count moved))
+      ≡ w
   pub counted : count ≤ maxRows * rounds
   pub few : listed ≤ problemOf f .states
   pub beyond : drop (problemOf f .states) (t .walk-list) ≡ drop (problemOf f .states) list₀
 
 pub run-starts
-    : {f index : List ℕ} {t : Tables} {e budget : ℕ} {from : Ended} → Runnable f index t → Begun (problemOf f) budget from
-    → RunLeft f index e budget
-    (runFrom (problemOf f) e (budget - from .counts .rounds) true (from .counts .rounds)
-    (machineWith t (take (from .listed) (t .walk-list)) (from .counts .evaluations) true))
-    (t .walk-list) t (from .counts .rounds) (from .counts .evaluations) (from .listed)
-run-starts h b =
-    record { runnable = h; within = b .within; left = refl; counted = b .counted; few = b .few; beyond = refl }
+    : {f index : List ℕ} {t : Tables} {e budget : ℕ} {b : Bool} → Runnable f index t
+    → RunLeft f index budget (goesOn (goingOn b) (problemOf f) budget (runFrom (problemOf f) e budget true 0 (machineWith t [] 0 true)))
+    (t .walk-list) t b e 0 0 0
+run-starts {budget = budget} h =
+    let z : budget - 0 ≡ budget = omega arith in
+    record {
+      runnable = h;
+      within = omega arith;
+      moved = true;
+      left = rw z refl;
+      counted = omega arith;
+      few = omega arith;
+      beyond = refl;
+    }
+
+pub of-kind
+    : (p : Problem) (budget : ℕ) (end : Ending) {k kind : Kind} {w : Ending} → k ≡ kind → goesOn k p budget end ≡ w
+    → goesOn kind p budget end ≡ w
+of-kind p budget end {w = w} same h = subst (λ k. goesOn k p budget end ≡ w) same h
 
 one-round
-    : (p : Problem) (e k j n : ℕ) (m : Machine) (w : Ending) → j ≡ suc k → runFrom p e j true n m ≡ w
-    → runFrom p e k (round p e m .moved) (n + 1) (round p e m) ≡ w
+    : (p : Problem) (e k j n : ℕ) (m : Machine) → j ≡ suc k
+    → runFrom p e j true n m ≡ runFrom p e k (round p e m .moved) (n + 1) (round p e m)
 unfolding runFrom
-one-round p e k j n m w h left = rw add-one (rw h at left)
+one-round p e k j n m h = rw (h, add-one) refl
 
-module _ {f index : List ℕ} {e budget : ℕ} {w : Ending} {list₀ : List ℕ} {t : Tables} {rounds count listed : ℕ}
-    (h : RunLeft f index e budget w list₀ t rounds count listed) where
+module _ {f index : List ℕ} {budget : ℕ} {w : Ending} {list₀ : List ℕ} {t : Tables} {goes-on : Bool} {e rounds count listed : ℕ}
+    (h : RunLeft f index budget w list₀ t goes-on e rounds count listed) where
   -- under the largest budget there is room for what the next round counts
   pub next-round-room
       : rounds < budget → budget ≤ maxBudget → round (problemOf f) e (machineWith t [] count true) .evaluations < countBound
@@ -156,22 +172,24 @@ module _ {f index : List ℕ} {e budget : ℕ} {w : Ending} {list₀ : List ℕ}
 
   module _ {t′ : Tables} {d : RoundDone} (r : Rounded (problemOf f) e t count t′ d) (l : rounds < budget) where
     abbrev this : Machine
-    this = machineWith t (take listed (t .walk-list)) count true
+    this = machineWith t (take listed (t .walk-list)) count (h .moved)
 
-    abbrev next : Machine
-    next = machineWith t′ (take (d .listed) (t′ .walk-list)) (d .count) (d .moved)
+    abbrev next : Bool → Machine
+    next b = machineWith t′ (take (d .listed) (t′ .walk-list)) (d .count) b
 
-    went : next ≡ round (problemOf f) e this
-    went = r .same (take listed (t .walk-list)) true
+    went : next (d .moved) ≡ round (problemOf f) e this
+    went = r .same (take listed (t .walk-list)) (h .moved)
 
-    went-on : runFrom (problemOf f) e (budget - (rounds + 1)) (d .moved) (rounds + 1) next ≡ w
-    went-on =
-        subst
-        (λ (x : Machine). runFrom (problemOf f) e (budget - (rounds + 1)) (x .moved) (rounds + 1) x ≡ w)
-        (sym went)
-        (one-round (problemOf f) e (budget - (rounds + 1)) (budget - rounds) rounds this w (omega arith) (h .left))
+    went-on : (b : Bool) → d .moved ≡ b
+        → goesOn (goingOn goes-on) (problemOf f) budget (runFrom (problemOf f) e (budget - (rounds + 1)) b (rounds + 1) (next b)) ≡ w
+    went-on b same =
+        let p = problemOf f in
+        rw same at
+        (ap (λ (x : Machine). goesOn (goingOn goes-on) p budget (runFrom p e (budget - (rounds + 1)) (x .moved) (rounds + 1) x)) went
+        ∙ sym (ap (goesOn (goingOn goes-on) p budget) (one-round p e (budget - (rounds + 1)) (budget - rounds) rounds this (omega arith)))
+        ∙ h .left)
 
-    after-sound : Sound (problemOf f) next
+    after-sound : Sound (problemOf f) (next (d .moved))
     after-sound =
         subst
         (Sound (problemOf f))
@@ -188,10 +206,12 @@ module _ {f index : List ℕ} {e budget : ℕ} {w : Ending} {list₀ : List ℕ}
           round-count (problemOf f) e (h .runnable .walkable .formed) this,
         )
 
-    pub run-goes-on
-        : d .moved ≡ true → length (t′ .walk-list) ≡ length (t .walk-list)
-        → RunLeft f index e budget w list₀ t′ (rounds + 1) (d .count) (d .listed)
-    run-goes-on moved long =
+    -- the next turn, once it is known what is left
+    goes
+        : {b : Bool} {e′ : ℕ} (moved : Bool) → length (t′ .walk-list) ≡ length (t .walk-list)
+        → goesOn (goingOn b) (problemOf f) budget (runFrom (problemOf f) e′ (budget - (rounds + 1)) true (rounds + 1) (next moved)) ≡ w
+        → RunLeft f index budget w list₀ t′ b e′ (rounds + 1) (d .count) (d .listed)
+    goes moved long left =
         record {
           runnable =
               record {
@@ -200,21 +220,42 @@ module _ {f index : List ℕ} {e budget : ℕ} {w : Ending} {list₀ : List ℕ}
                 list-long = omega (arith, long, h .runnable .list-long);
               };
           within = omega arith;
-          left = rw moved at went-on;
+          moved = moved;
+          left = left;
           counted = next-counted;
           few = r .few;
           beyond = r .beyond ∙ h .beyond;
         }
 
-    -- and where it ends, another may go on
-    pub run-stands : (ended : Ended) → ended .counts .rounds ≡ rounds + 1 → ended .counts .evaluations ≡ d .count → ended .listed ≡ d .listed
-        → Begun (problemOf f) budget ended
-    run-stands ended n c k = record { within = omega (arith, n); counted = omega (arith, n, c, next-counted); few = omega (arith, k, r .few) }
+    pub run-goes-on
+        : d .moved ≡ true → length (t′ .walk-list) ≡ length (t .walk-list)
+        → RunLeft f index budget w list₀ t′ goes-on e (rounds + 1) (d .count) (d .listed)
+    run-goes-on moved long = goes true long (went-on true moved)
 
-    pub run-solved
-        : d .moved ≡ false → w ≡ endedAs true (rounds + 1) (machineWith t′ (take (d .listed) (t′ .walk-list)) (d .count) false)
-    run-solved still = sym (rw still at went-on) ∙ run-stops (problemOf f) e (budget - (rounds + 1)) (rounds + 1) _
+    -- a quiet round
+    quiet : d .moved ≡ false → goesOn (goingOn goes-on) (problemOf f) budget (Ending.solved (rounds + 1) (next false)) ≡ w
+    quiet still =
+        ap (goesOn (goingOn goes-on) (problemOf f) budget)
+        (sym (run-stops (problemOf f) e (budget - (rounds + 1)) (rounds + 1) (next false)))
+        ∙ went-on false still
 
-  pub run-out-of-budget : budget ≤ rounds → w ≡ endedAs false rounds (machineWith t (take listed (t .walk-list)) count true)
-  unfolding runFrom
-  run-out-of-budget l = let k : budget - rounds ≡ 0 = omega arith in sym (rw k at (h .left))
+    pub part-ends
+        : d .moved ≡ false → goes-on ≡ true → length (t′ .walk-list) ≡ length (t .walk-list)
+        → RunLeft f index budget w list₀ t′ false 1 (rounds + 1) (d .count) (d .listed)
+    unfolding goesOn
+    part-ends still more long = goes false long (rw more at (quiet still))
+
+    pub run-solved : d .moved ≡ false → goes-on ≡ false → w ≡ endedAs true (rounds + 1) (next false)
+    unfolding goesOn
+    run-solved still last = sym (rw last at (quiet still))
+
+  pub run-out-of-budget : budget ≤ rounds → w ≡ endedAs false rounds (machineWith t (take listed (t .walk-list)) count (h .moved))
+  unfolding runFrom goesOn
+  run-out-of-budget l =
+      let none : budget - rounds ≡ 0 = omega arith in
+      sym (spent-stays goes-on _ _ ∙ rw none at (h .left))
+    where
+      spent-stays
+          : (b : Bool) (n : ℕ) (m : Machine) → Ending.spent n m ≡ goesOn (goingOn b) (problemOf f) budget (Ending.spent n m)
+      spent-stays true n m = refl
+      spent-stays false n m = refl

@@ -1,17 +1,18 @@
 -- What a round and a run are asked, and what they leave: the model's round, and how the model's run ends.
 -- The walk list is its first entries, as many as the last walk listed.
 use mathlib.Core.Path.{_≡_}
-use Prim.Native.Nat.{ℕ, _-_, _*_, _≤_}
-use mathlib.Core.Bool.{Bool, true, false, not}
-use mathlib.Core.List.{List}
+use Prim.Native.Nat.{ℕ, _≤_}
+use mathlib.Core.Bool.{Bool, true, false}
+use mathlib.Core.List.{List, []}
 use lib.ListN.{length, take, drop}
-use Rattle.model.specs.Limits.{maxRows}
 use Rattle.model.specs.Problem.{Problem, giveUpCost}
 use Rattle.model.specs.Sections.{problemOf}
 use Rattle.model.specs.Value.{byState}
 use Rattle.model.specs.Walk.{leastCost}
-use Rattle.model.specs.Rounds.{Machine, Ending, solved, spent, round, runFrom}
+use Rattle.model.specs.Rounds.{Machine, Ending, solved, spent, round, runFrom, goesOn}
 use Rattle.model.specs.Solution.{Tables}
+use Rattle.model.specs.declared.Kind.{Kind}
+use Rattle.model.specs.declared.Kind.the-variants.{Plain, Finishing}
 use Rattle.guarantee.specs.Sound.{SoundTables}
 use Rattle.walking.specs.Walkable.{Walkable}
 use Rattle.backing.specs.Backable.{machine}
@@ -50,21 +51,19 @@ pub record Rounded (p : Problem) (e : ℕ) (t : Tables) (count : ℕ) (t′ : Ta
   pub fine : r .over ≡ false
   pub no-row : r .row ≡ 0
 
--- where a run stands: what a further round adds to its counts has room, and its list is no longer than the states
-pub record Begun (p : Problem) (budget : ℕ) (r : Ended) : Type 0 where
-  pub within : r .counts .rounds ≤ budget
-  pub counted : r .counts .evaluations ≤ maxRows * r .counts .rounds
-  pub few : r .listed ≤ p .states
+-- the kind of a run that is to go on after its first quiet round, or not
+abbrev pub goingOn : Bool → Kind
+goingOn true = Finishing
+goingOn false = Plain
 
--- a run done, from where another stood: how it ended is how the model's run ends from there; where it is solved C is that of the picks as
--- they are left, else 0; no value was too large
-pub record Ran (p : Problem) (e budget : ℕ) (from : Ended) (t t′ : Tables) (r : Ended) : Type 0 where
+-- a run done with tolerance e, of either kind: how it ended is how the model's run ends, whether or not something moved last, which its
+-- answer does not look at; where it is solved C is that of the picks as they are left, else 0; no value was too large
+pub record Ran (kind : Kind) (p : Problem) (e budget : ℕ) (t t′ : Tables) (r : Ended) : Type 0 where
+  pub moved : Bool
   pub ends
-      : runFrom p e (budget - from .counts .rounds) true (from .counts .rounds)
-      (machineWith t (take (from .listed) (t .walk-list)) (from .counts .evaluations) true)
-      ≡ endedAs (r .solved) (r .counts .rounds)
-      (machineWith t′ (take (r .listed) (t′ .walk-list)) (r .counts .evaluations) (not (r .solved)))
-  pub stands : Begun p budget r
+      : goesOn kind p budget (runFrom p e budget true 0 (machineWith t [] 0 true))
+      ≡ endedAs (r .solved) (r .counts .rounds) (machineWith t′ (take (r .listed) (t′ .walk-list)) (r .counts .evaluations) moved)
+  pub few : r .listed ≤ p .states
   pub least : r .solved ≡ true → r .counts .least ≡ leastCost p (byState (t′ .picks))
   pub no-least : r .solved ≡ false → r .counts .least ≡ 0
   pub beyond : drop (p .states) (t′ .walk-list) ≡ drop (p .states) (t .walk-list)

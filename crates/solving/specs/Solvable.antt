@@ -11,6 +11,7 @@ use Rattle.model.specs.Questions.{Verdict, passes, _then_, ask, fileQuestions}
 use Rattle.model.specs.Sections.{problemOf}
 use Rattle.model.specs.Promises.{Leaves}
 use Rattle.model.specs.declared.Counts.{Counts}
+use Rattle.model.specs.declared.Kind.{Kind}
 use Rattle.model.specs.Solution.{Tables, solveQuestions, solution}
 use Rattle.reading.specs.Ready.{Ready}
 use Rattle.checking.specs.IndexLeft.{indexLeft}
@@ -36,7 +37,8 @@ pub record Solvable (f index : List ℕ) (budget : ℕ) (t : Tables) : Type 0 wh
   pub ready : Ready f index
 
 -- what a call answers and leaves; the index as questions 1 to 11 leave it, and that of the file where there was a run
-pub record FileSolved (f : List ℕ) (budget : ℕ) (t : Tables) (before index : List ℕ) (carried : Carried) (t′ : Tables) : Type 0 where
-  pub leaves : Leaves carried t′ (solution f budget t)
+pub record FileSolved
+    (kind : Kind) (f : List ℕ) (budget : ℕ) (t : Tables) (before index : List ℕ) (carried : Carried) (t′ : Tables) : Type 0 where
+  pub leaves : Leaves carried t′ (solution kind f budget t)
   pub left : index ≡ indexLeft f before
   pub ready : (carried .said ≡ Said.refused → ⊥) → Ready f index

@@ -4,6 +4,7 @@ use backing::LOG;
 use backing::backup::Tally;
 use backing::backup::backups;
 use model::Counts;
+use model::Kind;
 use reading::index::INDEX;
 use walking::least::least_cost;
 use walking::walk::walk;
@@ -11,13 +12,12 @@ ghost use mathlib.Core.Path.{_≡_};
 ghost use mathlib.Core.Bool.{true};
 ghost use mathlib.Core.List.{[]};
 ghost use Prim.Native.Nat.{_≤_, _<_};
-ghost use Rattle.model.specs.Carried.{noCounts};
 ghost use Rattle.model.specs.Limits.{maxBudget};
 ghost use Rattle.model.specs.Sections.{problemOf};
 ghost use Rattle.model.specs.Solution.{tables};
 ghost use Rattle.model.specs.Rounds;
 ghost use Rattle.backing.specs.Backable.{countBound, machine};
-ghost use Rattle.solving.specs.Runs.{Runnable, Given, Rounded, Begun, Ran};
+ghost use Rattle.solving.specs.Runs.{goingOn, Runnable, Given, Rounded, Ran};
 
 // A round done: as a tally, the length of its walk list, and C where nothing moved, else 0.
 pub struct RoundDone {
@@ -99,25 +99,20 @@ pub struct Ended {
     pub row: u32,
 }
 
-// A run that has not begun.
-pub fn unbegun() -> Ended
-    ensures { λ r. ⌜ (r .counts ≡ noCounts) × (r .listed ≡ 0) ⌝ }
+// Whether a run is to go on after its first quiet round.
+fn is_finishing(kind: Kind) -> bool
+    ensures { λ r. ⌜ goingOn r ≡ kind ⌝ }
 {
-    Ended {
-        counts: Counts {
-            rounds: 0,
-            evaluations: 0,
-            least: 0,
-        },
-        listed: 0,
-        solved: false,
-        over: false,
-        row: 0,
+    match kind {
+        Kind::Plain => false,
+        Kind::Finishing => true,
     }
 }
 
-// Runs from where a run stands until `budget` rounds are done in all.
+// Runs rounds with the file's tolerance until one moves nothing; a finishing run goes on from there, with tolerance 1, until the next that
+// moves nothing. At most `budget` rounds are done in all.
 pub fn run(
+    kind: Kind,
     file: &[u8],
     index: &[u32; INDEX],
     values: &mut [u32],
@@ -128,20 +123,21 @@ pub fn run(
     tolerance: u32,
     give: u32,
     budget: u64,
-    from: Ended,
 ) -> Ended
     requires { ⌜ Runnable (now file) (now index) (tables (now values) (now picks) (now remembered) (now list))
-        × Given (problemOf (now file)) states give × (budget ≤ maxBudget) × Begun (problemOf (now file)) budget from ⌝ }
+        × Given (problemOf (now file)) states give × (budget ≤ maxBudget) ⌝ }
     ensures { λ r.
         ⌜ Ran
-        (problemOf (now (file .entry))) tolerance budget from
+        kind (problemOf (now (file .entry))) tolerance budget
         (tables (now (values .entry)) (now (picks .entry)) (now (remembered .entry)) (now (list .entry)))
         (tables (now (values .exit)) (now (picks .exit)) (now (remembered .exit)) (now (list .exit))) r ⌝ }
 {
     let mut log = [0u32; LOG];
-    let mut rounds = from.counts.rounds;
-    let mut count = from.counts.evaluations;
-    let mut listed = from.listed;
+    let mut goes_on = is_finishing(kind);
+    let mut e = tolerance;
+    let mut rounds = 0;
+    let mut count = 0;
+    let mut listed = 0;
     while rounds < budget {
         let r = round(
             file,
@@ -152,7 +148,7 @@ pub fn run(
             list,
             &mut log,
             states,
-            tolerance,
+            e,
             give,
             count,
         );
@@ -173,17 +169,21 @@ pub fn run(
         rounds += 1;
         count = r.count;
         if !r.moved {
-            return Ended {
-                counts: Counts {
-                    rounds,
-                    evaluations: count,
-                    least: r.least,
-                },
-                listed,
-                solved: true,
-                over: false,
-                row: 0,
-            };
+            if !goes_on {
+                return Ended {
+                    counts: Counts {
+                        rounds,
+                        evaluations: count,
+                        least: r.least,
+                    },
+                    listed,
+                    solved: true,
+                    over: false,
+                    row: 0,
+                };
+            }
+            goes_on = false;
+            e = 1;
         }
     }
     Ended {

@@ -6,9 +6,9 @@ use crate::lent::remember;
 use crate::lent::solve_questions;
 use crate::run::Ended;
 use crate::run::run;
-use crate::run::unbegun;
 use checking::questions::questions;
 use model::FileAnswer;
+use model::Kind;
 use model::SolveAnswer;
 use reading::index::INDEX;
 use reading::layout::layout_of;
@@ -19,8 +19,9 @@ ghost use mathlib.Core.Path.{_≡_};
 ghost use mathlib.Core.Bool.{false};
 ghost use lib.ListN.{length};
 ghost use Rattle.model.specs.Answers.{solveCarries};
-ghost use Rattle.model.specs.Promises.{Leaves, EndsSolved, PassesAudit};
+ghost use Rattle.model.specs.Promises.{Leaves, EndsSolved, PassesAudit, FinishesExact};
 ghost use Rattle.model.specs.Solution.{tables, solution};
+ghost use Rattle.model.specs.declared.Kind.the-variants.{Finishing};
 ghost use Rattle.reading.specs.Tests.{indexSize};
 ghost use Rattle.solving.specs.Solvable.{runCarries, Solvable, FileSolved};
 
@@ -45,6 +46,7 @@ fn answer(end: Ended) -> SolveAnswer
 
 // Solves a file that questions 1 to 13 let through.
 fn solve_ready(
+    kind: Kind,
     file: &[u8],
     index: &[u32; INDEX],
     budget: u64,
@@ -58,7 +60,7 @@ fn solve_ready(
         ⌜ Leaves
         (solveCarries r) (tables (now (values .exit)) (now (picks .exit)) (now (remembered .exit)) (now (list .exit)))
         (solution
-        (now (file .entry)) budget
+        kind (now (file .entry)) budget
         (tables (now (values .entry)) (now (picks .entry)) (now (remembered .entry)) (now (list .entry)))) ⌝ }
 {
     let l = layout_of(file);
@@ -69,6 +71,7 @@ fn solve_ready(
     remember(file, index, values, remembered, l.rows);
     let give = give_up_cost(file);
     let end = run(
+        kind,
         file,
         index,
         values,
@@ -79,7 +82,6 @@ fn solve_ready(
         set.tolerance,
         give,
         budget,
-        unbegun(),
     );
     pad(list, end.listed, states);
     answer(end)
@@ -88,6 +90,7 @@ fn solve_ready(
 // Questions 1 to 14 about a file, a budget and four lent tables, and the run where they let it be. The index is that of the file
 // where there was a run.
 pub fn solve_file(
+    kind: Kind,
     file: &[u8],
     budget: u64,
     values: &mut [u32],
@@ -99,7 +102,7 @@ pub fn solve_file(
     requires { ⌜ length (now index) ≡ indexSize ⌝ }
     ensures { λ r.
         ⌜ FileSolved
-        (now (file .entry)) budget
+        kind (now (file .entry)) budget
         (tables (now (values .entry)) (now (picks .entry)) (now (remembered .entry)) (now (walk .entry))) (now (index .entry))
         (now (index .exit)) (solveCarries r)
         (tables (now (values .exit)) (now (picks .exit)) (now (remembered .exit)) (now (walk .exit))) ⌝ }
@@ -121,12 +124,14 @@ pub fn solve_file(
     if let FileAnswer::Refused { question, place } = about_tables {
         return SolveAnswer::Refused { question, place };
     }
-    solve_ready(file, index, budget, values, picks, remembered, walk)
+    solve_ready(kind, file, index, budget, values, picks, remembered, walk)
 }
 
 // Solves a file within a budget of rounds. The answer and what stands in the lent tables afterwards, entries beyond the counts
-// included, are those of document 01. Given enough rounds it ends solved, and what it then leaves passes the audit, with the same C.
+// included, are those of document 01. Given enough rounds it ends solved, and what it then leaves passes the audit, with the same C. Of a
+// finishing run (E8) each value on the plan is then that of its pick, and what it leaves passes the audit under tolerance 1 too.
 pub fn solve(
+    kind: Kind,
     file: &[u8],
     budget: u64,
     values: &mut [u32],
@@ -138,17 +143,30 @@ pub fn solve(
         ⌜ Leaves
         (solveCarries r) (tables (now (values .exit)) (now (picks .exit)) (now (remembered .exit)) (now (walk .exit)))
         (solution
-        (now (file .entry)) budget
+        kind (now (file .entry)) budget
         (tables (now (values .entry)) (now (picks .entry)) (now (remembered .entry)) (now (walk .entry)))) ⌝ }
     ensures ending { λ r.
         ⌜ EndsSolved
-        (now (file .entry)) budget
+        kind (now (file .entry)) budget
         (tables (now (values .entry)) (now (picks .entry)) (now (remembered .entry)) (now (walk .entry))) (solveCarries r) ⌝ }
     ensures acceptance { λ r.
         ⌜ PassesAudit
         (now (file .entry))
         (tables (now (values .exit)) (now (picks .exit)) (now (remembered .exit)) (now (walk .exit))) (solveCarries r) ⌝ }
+    ensures exactness { λ r.
+        ⌜ (kind ≡ Finishing → FinishesExact
+        (now (file .entry))
+        (tables (now (values .exit)) (now (picks .exit)) (now (remembered .exit)) (now (walk .exit))) (solveCarries r)) ⌝ }
 {
     let mut index = [0u32; INDEX];
-    solve_file(file, budget, values, picks, remembered, walk, &mut index)
+    solve_file(
+        kind,
+        file,
+        budget,
+        values,
+        picks,
+        remembered,
+        walk,
+        &mut index,
+    )
 }

@@ -1,7 +1,7 @@
 //! Compiles the C and the Rust example as `README.md` says, runs both on files of `examples` and on
-//! others, and holds what they print against the solver and the audit written apart. So too the
-//! example that follows a plan, against the follower, and the one that writes a set form, against
-//! `set_form.rs`. Holds also what `stick.md` and `README.md` show.
+//! others, and holds what they print against the solver and the audit written apart; the C example also
+//! where it finishes. So too the example that follows a plan, against the follower, and the one that
+//! writes a set form, against `set_form.rs`. Holds also what `stick.md` and `README.md` show.
 //!
 //! `compare_examples`
 
@@ -9,6 +9,7 @@ use comparisons::audit::{audit_file, Verdict};
 use comparisons::damage::{damaged, one_wrong_each};
 use comparisons::examples::{file_p, path, stick, with_total, TEXTS};
 use comparisons::extremes::{at_limits, deep_chain};
+use comparisons::finishing::coarse;
 use comparisons::follower::{open, report, Followed, Record};
 use comparisons::harness::Tally;
 use comparisons::limits::{GIVE_UP, MAX_STATES, PLAN_ROUNDS};
@@ -17,7 +18,7 @@ use comparisons::problem::{Problem, FILE_QUESTIONS};
 use comparisons::programs::{run_to_end, said, start, Folder, Said};
 use comparisons::random::Random;
 use comparisons::set_form::set_form;
-use comparisons::solver::{solve, Answer, OwnedTables};
+use comparisons::solver::{run, Answer, Kind, OwnedTables};
 use comparisons::totals::{Fourth, FOURTHS};
 use comparisons::variants::SAME;
 use comparisons::wide::{wide, ORDERS};
@@ -79,6 +80,8 @@ const LEAST_MET: u64 = 5;
 /// How many there must be of these, in each total their share.
 const LEAST: [(&str, u64); 2] =
     [("set forms written", 80), ("set forms shorter than the file", 40)];
+/// How many files the C example must finish.
+const LEAST_FINISHING: (&str, u64) = ("runs of the example that finishes", 30);
 /// The reports that `README.md` shows on P.
 const SHOWN_REPORTS: [u64; 3] = [0, 0, 0];
 
@@ -120,8 +123,16 @@ fn states_text(tables: &OwnedTables) -> String {
     listed.map(line).collect()
 }
 
-/// All that the examples print of a file.
-fn example_text(file: &[u8]) -> String {
+/// The words that ask an example for a run of a kind, behind the name of a file.
+fn words_behind(kind: Kind) -> &'static [&'static str] {
+    match kind {
+        Kind::Plain => &[],
+        Kind::Finishing => &["finish"],
+    }
+}
+
+/// All that the examples print of a file, with a run of a kind.
+fn example_text(kind: Kind, file: &[u8]) -> String {
     let problem = match Problem::read(file) {
         Ok(problem) => problem,
         Err(no) => {
@@ -130,7 +141,7 @@ fn example_text(file: &[u8]) -> String {
     };
     let mut tables = OwnedTables::new(&problem);
     let (word, rounds, evaluations, least) =
-        match solve(&problem, PLAN_ROUNDS, tables.lend()).answer {
+        match run(kind, &problem, PLAN_ROUNDS, tables.lend()).answer {
             Answer::Solved { rounds, evaluations, least_cost } => {
                 ("solved", rounds, evaluations, least_cost)
             }
@@ -141,8 +152,9 @@ fn example_text(file: &[u8]) -> String {
     let audit = audit_text(audit_file(file, &tables.values, &tables.picks));
     tables.values[0] += 1;
     let higher = audit_text(audit_file(file, &tables.values, &tables.picks));
+    let call = words_behind(kind).first().unwrap_or(&"solve");
     format!(
-        "check: passed\nsolve: {word}, {rounds} rounds, {evaluations} evaluations, C {least}\n\
+        "check: passed\n{call}: {word}, {rounds} rounds, {evaluations} evaluations, C {least}\n\
          {states}{audit}with the value of state 0 a tick higher:\n{higher}"
     )
 }
@@ -311,16 +323,31 @@ fn compare_forms(tally: &mut Tally, folder: &Folder) {
     compare_form(tally, folder, "a file as long as the room", &long);
 }
 
-/// Runs both examples on a file.
+/// Runs both examples on a file, and the C example once more to finish it.
 fn compare(tally: &mut Tally, folder: &Folder, case: &str, file: &[u8]) {
     folder.put("file", Some(file));
     for Example { name, .. } in EXAMPLES {
-        tally.case = format!("the {name} example on {case}");
         tally.count("runs of an example");
-        let said = said(start(Command::new(folder.path(name)).arg(folder.path("file"))));
-        let asked = Said::only(example_text(file));
-        tally.hold("what it prints", &said, &asked);
+        compare_example(tally, folder, name, Kind::Plain, case, file);
     }
+    tally.count(LEAST_FINISHING.0);
+    compare_example(tally, folder, EXAMPLES[0].name, Kind::Finishing, case, file);
+}
+
+/// Runs an example on the file that stands in the folder.
+fn compare_example(
+    tally: &mut Tally,
+    folder: &Folder,
+    name: &str,
+    kind: Kind,
+    case: &str,
+    file: &[u8],
+) {
+    tally.case = format!("the {name} example on {case}, {kind:?} run");
+    let mut command = Command::new(folder.path(name));
+    command.arg(folder.path("file")).args(words_behind(kind));
+    let asked = Said::only(example_text(kind, file));
+    tally.hold("what it prints", &said(start(&mut command)), &asked);
 }
 
 /// A text as an indented block.
@@ -354,7 +381,7 @@ fn compare_pages(tally: &mut Tally) {
     let p = std::fs::read(path("P")).expect("P");
     hold_shown(tally, "../README.md", TEXTS[0].1);
     hold_shown(tally, "../README.md", &plan_lines(&p));
-    hold_shown(tally, "../README.md", &example_text(&p));
+    hold_shown(tally, "../README.md", &example_text(Kind::Plain, &p));
     hold_shown(tally, "../README.md", &follow_text(&p, &SHOWN_REPORTS));
     for example in EXAMPLES.iter().chain([&FOLLOW, &SET_FORM]) {
         hold_shown(tally, "../README.md", example.command);
@@ -362,7 +389,8 @@ fn compare_pages(tally: &mut Tally) {
 }
 
 fn main() -> ExitCode {
-    let mut tally = Tally::default().in_each_total(&LEAST).meeting(FILE_QUESTIONS, LEAST_MET);
+    let tally = Tally::asking(&[LEAST_FINISHING]).in_each_total(&LEAST);
+    let mut tally = tally.meeting(FILE_QUESTIONS, LEAST_MET);
     let folder = Folder::new("compare-examples");
     for example in EXAMPLES.iter().chain([&FOLLOW, &SET_FORM]) {
         compile(&folder, example);
@@ -383,6 +411,8 @@ fn main() -> ExitCode {
             "the stick in another total",
             &with_total(&stick(), fourth).bytes(),
         );
+        let coarse = with_total(&coarse(), fourth).bytes();
+        compare(&mut tally, &folder, "a coarse tolerance", &coarse);
         compare(&mut tally, &folder, "no total", &file_p().with_fourth(Some(999)).bytes());
         compare(&mut tally, &folder, "the limits", &limits);
         compare(&mut tally, &folder, "a chain", &chain);

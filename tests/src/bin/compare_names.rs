@@ -1,6 +1,7 @@
 //! Tries the programs on names that cannot be read or written, on names of files that are no tables, on
-//! the longest names, on names that begin with `-`, and on too few and too many of them: there is a
-//! message on standard error, nothing is lost, and there is no table that is not whole.
+//! the longest names, on names that begin with `-`, and on too few and too many of them, with and without
+//! `--finish`, and on `--finish` where it does not count: there is a message on standard error, nothing is
+//! lost, and there is no table that is not whole.
 //!
 //! `compare_names [plan] [audit] [sheet]`
 
@@ -8,9 +9,12 @@ use comparisons::examples::file_p;
 use comparisons::extremes::at_limits;
 use comparisons::harness::Tally;
 use comparisons::limits::MAX_STATES;
-use comparisons::listing::{plan_lines, planned};
-use comparisons::programs::{run, said, start, taken, Folder, Program, Said};
+use comparisons::listing::{plan_lines, planned_by};
+use comparisons::programs::{
+    kind_words, run, said, start, taken, Folder, Program, Said, PLAN_USAGE,
+};
 use comparisons::random::Random;
+use comparisons::solver::{Kind, KINDS};
 use comparisons::table_files::{picks_bytes, values_bytes};
 use std::ffi::{OsStr, OsString};
 use std::fs::File;
@@ -19,12 +23,14 @@ use std::os::unix::fs::{symlink, FileTypeExt};
 use std::process::{Command, ExitCode};
 
 /// How often each must be met.
-const LEAST: [(&str, u64); 5] = [
-    ("names that cannot be written", 28),
-    ("names of other files", 30),
-    ("part files", 12),
-    ("names with a dash", 20),
+const LEAST: [(&str, u64); 7] = [
+    ("names that cannot be written", 32),
+    ("names of other files", 45),
+    ("part files", 24),
+    ("names with a dash", 35),
     ("names that cannot be read", 21),
+    ("tables written with --finish", 8),
+    ("uses of --finish that are refused", 35),
 ];
 /// The system's longest path, in bytes.
 const LONGEST_PATH: usize = 4_096;
@@ -34,6 +40,41 @@ const OLD_PICKS: &[u8] = b"old...";
 /// Lengths of files that are no tables of P: empty, about those of its tables, and longer than any table.
 const NO_VALUES: [usize; 6] = [0, 6, 11, 13, 4_096, 4_097];
 const NO_PICKS: [usize; 6] = [0, 5, 7, 12, 2_048, 100_000];
+/// Words of which `--finish` is not the first, is not all of a word, or is not followed by nothing or two
+/// names.
+const REFUSED: [&[&str]; 31] = [
+    &["--finish", "old-values"],
+    &["--finish", ""],
+    &["--finish", "--finish"],
+    &["--finish", "--"],
+    &["--finish", "-v", "old-picks"],
+    &["--finish", "old-values", "-p"],
+    &["--finish", "--finish", "old-picks"],
+    &["--finish", "old-values", "--finish"],
+    &["--finish", "--finish", "old-values", "old-picks"],
+    &["--finish", "old-values", "old-picks", "--finish"],
+    &["--finish", "old-values", "old-picks", "new"],
+    &["old-values", "--finish"],
+    &["", "--finish"],
+    &["old-values", "old-picks", "--finish"],
+    &["old-values", "--finish", "old-picks"],
+    &["--", "--finish"],
+    &["--finishing"],
+    &["--finishing", "old-values", "old-picks"],
+    &["--finish=", "old-values", "old-picks"],
+    &["--finish "],
+    &["--finish\n"],
+    &[" --finish"],
+    &["--Finish"],
+    &["--Finish", "old-values", "old-picks"],
+    &["--FINISH"],
+    &["--finis"],
+    &["--finis", "old-values", "old-picks"],
+    &["-finish"],
+    &["---finish"],
+    &["finish"],
+    &["finish", "old-values", "old-picks"],
+];
 /// Runs a program that may write no file longer than so many blocks, as on a disk that is full.
 const FULL_DISK: &str = "trap '' XFSZ; ulimit -f \"$1\"; shift; exec \"$@\"";
 
@@ -42,6 +83,8 @@ struct Room {
     plan: Program,
     audit: Program,
     sheet: Program,
+    /// The kind of run that `plan` is asked for.
+    kind: Kind,
     folder: Folder,
     /// What stood in the folder before each run.
     standing: Vec<(String, Vec<u8>)>,
@@ -72,7 +115,25 @@ impl Room {
             program.run(&folder, &["-"], &[]);
         }
         let standing = contents(&folder);
-        Room { plan, audit, sheet, folder, standing, tally: Tally::asking(&LEAST) }
+        let (kind, tally) = (Kind::Plain, Tally::asking(&LEAST));
+        Room { plan, audit, sheet, kind, folder, standing, tally }
+    }
+
+    /// `plan` with words that ask for its kind of run, and names.
+    fn plan_command<N: AsRef<OsStr>>(&self, names: &[N]) -> Command {
+        let mut command = Command::new(self.plan.path());
+        command.args(kind_words(self.kind)).args(names).current_dir(self.folder.path(""));
+        command
+    }
+
+    /// Runs it on a file.
+    fn run_plan<N: AsRef<OsStr>>(&self, names: &[N], file: &[u8]) -> Said {
+        run(&mut self.plan_command(names), file)
+    }
+
+    /// The case that is tried, under the kind of run that is asked for.
+    fn try_case(&mut self, case: String) {
+        self.tally.case = format!("{case}, {:?} run", self.kind);
     }
 
     /// Holds that the folder is as it was.
@@ -92,11 +153,10 @@ impl Room {
     /// `plan` with names that cannot both take tables: there is no plan, nothing is written, and the
     /// message is about the one at fault.
     fn compare_unwritable(&mut self, values: &OsStr, picks: &OsStr, at_fault: &OsStr) {
-        self.tally.case =
-            format!("plan {:.40?} {:.40?}", values.to_string_lossy(), picks.to_string_lossy());
+        let [shown, other] = [values, picks].map(OsStr::to_string_lossy);
+        self.try_case(format!("plan {shown:.40?} {other:.40?}"));
         self.tally.count("names that cannot be written");
-        let file = file_p().bytes();
-        let said = self.plan.run(&self.folder, &[values, picks], &file);
+        let said = self.run_plan(&[values, picks], &file_p().bytes());
         self.tally.hold("the lines", said.output.as_str(), "");
         self.hold_message(&said.messages, &front("plan", &at_fault.to_string_lossy()));
         self.hold_folder();
@@ -134,9 +194,13 @@ impl Room {
     /// The same with names that are others for two files.
     fn compare_written_to(&mut self, names: [&OsStr; 2], [values, picks]: [&OsStr; 2]) {
         let file = file_p().bytes();
-        let tables = planned(&file).tables.expect("P passes");
-        let said = self.plan.run(&self.folder, &names, &file);
-        self.tally.hold("the lines", &said, &Said::only(plan_lines(&file)));
+        let asked = planned_by(self.kind, &file);
+        let tables = asked.tables.expect("P passes");
+        if self.kind == Kind::Finishing {
+            self.tally.count("tables written with --finish");
+        }
+        let said = self.run_plan(&names, &file);
+        self.tally.hold("the lines", &said, &Said::only(asked.lines));
         self.tally.hold("values", &self.folder.get(values), &Some(values_bytes(&tables.values)));
         self.tally.hold("picks", &self.folder.get(picks), &Some(picks_bytes(&tables.picks)));
     }
@@ -154,12 +218,10 @@ impl Room {
 
     /// `plan` on P with one name that holds a file of another length: it is as it was, the other too.
     fn compare_taken(&mut self, values: &str, picks: &str, message: &str, input: File) {
-        self.tally.case = format!("plan {values} {picks}, one of them taken");
+        self.try_case(format!("plan {values} {picks}, one of them taken"));
         self.tally.count("names of other files");
         let before = contents(&self.folder);
-        let mut command = Command::new(self.plan.path());
-        command.args([values, picks]).current_dir(self.folder.path("")).stdin(input);
-        let ended = said(start(&mut command));
+        let ended = said(start(self.plan_command(&[values, picks]).stdin(input)));
         let asked = Said { output: String::new(), messages: message.into() };
         self.tally.hold("what is said", &ended, &asked);
         self.tally.hold("the folder", &contents(&self.folder), &before);
@@ -204,7 +266,7 @@ impl Room {
 
     /// Names as long as leaves room for their part files' names, which are written, and longer ones.
     fn compare_long_names(&mut self) {
-        self.tally.case = "the longest names".into();
+        self.try_case("the longest names".into());
         let long = |name: &str, length: usize| "./".repeat((length - name.len()) / 2) + name;
         let names = ["new", "newer"].map(OsStr::new);
         let long_names = ["new", "newer"].map(|name| OsString::from(long(name, LONGEST_PATH - 7)));
@@ -220,12 +282,12 @@ impl Room {
 
     /// Tables of the same lengths are replaced, and a link to one is, but not what it leads to.
     fn compare_replaced(&mut self) {
-        self.tally.case = "old tables".into();
+        self.try_case("old tables".into());
         let (values, picks) = (OsStr::new("old-values"), OsStr::new("old-picks"));
         self.compare_written(values, picks);
         self.compare_written(values, picks);
         self.restore(&[]);
-        self.tally.case = "a link to an old table".into();
+        self.try_case("a link to an old table".into());
         symlink("old-values", self.folder.path("link")).expect("a link can be made");
         self.compare_written(OsStr::new("link"), OsStr::new("new"));
         self.restore(&["link", "new"].map(OsStr::new));
@@ -238,7 +300,7 @@ impl Room {
         let (values, picks) = (OsStr::new("new"), OsStr::new("newer"));
         for (part, whole, others) in [("new.part", 12, NO_VALUES), ("newer.part", 6, NO_PICKS)] {
             for length in [0, whole] {
-                self.tally.case = format!("{part} of an earlier run, {length} bytes");
+                self.try_case(format!("{part} of an earlier run, {length} bytes"));
                 self.tally.count("part files");
                 self.folder.put(part, Some(&vec![b'o'; length]));
                 self.compare_written(values, picks);
@@ -256,8 +318,8 @@ impl Room {
     /// A file that is refused is refused whatever the names, and nothing is written.
     fn compare_refused(&mut self) {
         for names in [["file", "empty"], ["new", "folder"], ["old-values", "old-picks"], ["", ""]] {
-            self.tally.case = format!("a refused file with {names:?}");
-            let said = self.plan.run(&self.folder, &names, &file_p().bytes()[1..]);
+            self.try_case(format!("a refused file with {names:?}"));
+            let said = self.run_plan(&names, &file_p().bytes()[1..]);
             self.tally.hold("the refusal", &said, &Said::only(plan_lines(&file_p().bytes()[1..])));
             self.hold_folder();
         }
@@ -266,7 +328,7 @@ impl Room {
     /// Names that begin with `-`, each at each place.
     fn compare_dashes(&mut self) {
         let long = format!("-{}", "n".repeat(10_000));
-        for dashed in ["-", "-v", "--help", "-/../new", &long] {
+        for dashed in ["-", "-v", "--help", "--finish", "--finishing", "-/../new", &long] {
             for place in 0..3 {
                 self.tally.case = format!("{dashed:.40} at {place}");
                 self.tally.count("names with a dash");
@@ -279,23 +341,44 @@ impl Room {
                 }
             }
         }
-        self.tally.case = "a name that begins with `./-`".into();
-        let names = ["./-v", "./-p"].map(OsStr::new);
+    }
+
+    /// Names that begin with `./-`, which are written.
+    fn compare_dashed_paths(&mut self) {
+        self.try_case("a name that begins with `./-`".into());
+        let names = ["./--finish", "./-p"].map(OsStr::new);
         self.compare_written(names[0], names[1]);
         self.restore(&names);
+    }
+
+    /// `--finish` counts only as the first word, whole, before no names or two.
+    fn compare_finish(&mut self) {
+        let long = format!("--finish{}", "h".repeat(10_000));
+        for words in REFUSED.into_iter().chain([&[long.as_str()][..]]) {
+            self.tally.case = format!("plan {words:.40?}");
+            self.tally.count("uses of --finish that are refused");
+            self.compare_usage(words, 2);
+        }
+        let names = ["old-values", "old-picks", "new", "newer", "newest"];
+        for count in (1..=names.len()).filter(|&count| count != 2) {
+            self.tally.case = format!("--finish and {count} names");
+            self.tally.count("uses of --finish that are refused");
+            self.compare_usage(&[&["--finish"], &names[..count]].concat(), 2);
+        }
     }
 
     /// A disk that takes no table, or only the front of one.
     fn compare_full_disk(&mut self) {
         let file = at_limits(&mut Random::new(0), true, 5_000, None).bytes();
         for blocks in ["0", "1"] {
-            self.tally.case = format!("a disk with {blocks} blocks left");
+            self.try_case(format!("a disk with {blocks} blocks left"));
             self.tally.count("full disks");
+            let plan = self.plan_command(&["long-values", "new"]);
             let mut command = Command::new("sh");
-            command.args(["-c", FULL_DISK, "sh", blocks]).arg(self.plan.path());
-            command.args(["long-values", "new"]).current_dir(self.folder.path(""));
+            command.args(["-c", FULL_DISK, "sh", blocks]).arg(plan.get_program());
+            command.args(plan.get_args()).current_dir(self.folder.path(""));
             let said = run(&mut command, &file);
-            self.tally.hold("the lines", &said.output, &plan_lines(&file));
+            self.tally.hold("the lines", &said.output, &planned_by(self.kind, &file).lines);
             self.hold_message(&said.messages, "plan: long-values: ");
             self.hold_folder();
         }
@@ -314,8 +397,8 @@ impl Room {
             ["new", "./new.part"],
             ["./new.part", "new"],
         ] {
-            self.tally.case = format!("one name for both tables, {names:?}");
-            let said = self.plan.run(&self.folder, &names, &file);
+            self.try_case(format!("one name for both tables, {names:?}"));
+            let said = self.run_plan(&names, &file);
             self.tally.hold("the lines", said.output.as_str(), "");
             self.hold_message(&said.messages, "plan: ");
             self.hold_folder();
@@ -324,7 +407,7 @@ impl Room {
 
     /// Names of any bytes but a slash, and names in a folder below, are written.
     fn compare_odd_names(&mut self) {
-        self.tally.case = "odd names".into();
+        self.try_case("odd names".into());
         let odd: OsString = OsStringExt::from_vec(vec![b' ', 0xff, b'*', b'\n']);
         let below = OsString::from("folder/picks");
         self.compare_written(&odd, &below);
@@ -368,12 +451,10 @@ impl Room {
 
     /// A standard input that cannot be read.
     fn compare_unreadable_input(&mut self) {
-        self.tally.case = "a folder as standard input".into();
+        self.try_case("a folder as standard input".into());
         for names in [&[][..], &["old-values", "old-picks"]] {
             let input = File::open(self.folder.path("folder")).expect("a folder opens");
-            let mut command = Command::new(self.plan.path());
-            command.args(names).current_dir(self.folder.path("")).stdin(input);
-            let said = said(start(&mut command));
+            let said = said(start(self.plan_command(names).stdin(input)));
             self.tally.hold("the lines", said.output.as_str(), "");
             self.hold_message(&said.messages, "plan: standard input: ");
             self.hold_folder();
@@ -397,7 +478,7 @@ impl Room {
     fn compare_usage(&mut self, names: &[&str], wanted: usize) {
         let (program, messages) = match wanted {
             0 => (&self.sheet, "sheet: give no names\n"),
-            2 => (&self.plan, "plan: give no names, or two: VALUES PICKS\n"),
+            2 => (&self.plan, PLAN_USAGE),
             _ => (&self.audit, "audit: give three names: FILE VALUES PICKS\n"),
         };
         let said = program.run(&self.folder, names, &file_p().bytes());
@@ -442,18 +523,23 @@ fn main() -> ExitCode {
     let mut room = Room::new();
     room.compare_all_unwritable();
     room.compare_all_taken();
-    room.compare_longest();
-    room.compare_long_names();
-    room.compare_replaced();
-    room.compare_parts();
-    room.compare_refused();
+    for kind in KINDS {
+        room.kind = kind;
+        room.compare_longest();
+        room.compare_long_names();
+        room.compare_replaced();
+        room.compare_parts();
+        room.compare_refused();
+        room.compare_dashed_paths();
+        room.compare_full_disk();
+        room.compare_one_name();
+        room.compare_odd_names();
+        room.compare_unreadable_input();
+    }
     room.compare_dashes();
-    room.compare_full_disk();
-    room.compare_one_name();
-    room.compare_odd_names();
+    room.compare_finish();
     room.compare_unreadable();
     room.compare_empty();
-    room.compare_unreadable_input();
     room.compare_counts();
     room.tally.close()
 }

@@ -1,6 +1,7 @@
 //! Compares the day of the programs, end to end, with the solver and the audit written apart: `plan
 //! VALUES PICKS` prints and writes the run, `audit FILE VALUES PICKS` prints the verdict on what was
-//! written, on values a tick higher, and on tables damaged in many ways; in every total.
+//! written, on values a tick higher, and on tables damaged in many ways; in every total. So too `plan
+//! --finish VALUES PICKS`, whose tables are accepted under the file's tolerance and under 1.
 //!
 //! `compare_programs [plan] [audit] [seed] [files]`
 
@@ -9,14 +10,17 @@ use comparisons::damage::{damaged, one_wrong_each};
 use comparisons::encode::Draft;
 use comparisons::examples::{file_p, one_state, stick, with_total};
 use comparisons::extremes::{at_limits, deep_chain, endless};
+use comparisons::finishing::{coarse, with_tolerance};
 use comparisons::harness::{argument, noise, Tally};
-use comparisons::limits::{GIVE_UP, MAX_STATES, NO_PICK};
-use comparisons::listing::{audit_line, ends_within, planned, remainders_from, Planned};
+use comparisons::limits::{FINISHING_TOLERANCE, GIVE_UP, MAX_STATES, MAX_TOLERANCE, NO_PICK};
+use comparisons::listing::{
+    audit_line, ends_within, planned, planned_by, remainders_from, Planned,
+};
 use comparisons::made::made;
 use comparisons::problem::FILE_QUESTIONS;
-use comparisons::programs::{taken, Folder, Program, Said};
+use comparisons::programs::{kind_words, taken, Folder, Program, Said};
 use comparisons::random::Random;
-use comparisons::solver::OwnedTables;
+use comparisons::solver::{Kind, OwnedTables};
 use comparisons::table_files::{picks_bytes, picks_of, values_bytes, values_of};
 use comparisons::totals::FOURTHS;
 use std::process::ExitCode;
@@ -33,16 +37,21 @@ const LEAST_MET: u64 = 20;
 const LEAST_OF_FILES: u64 = 5;
 /// How many there must be of each answer, and of remainders above 0 in a plan's lines, in each total its
 /// share; `refused` are the audits that refuse.
-const LEAST: [(&str, u64); 8] = [
-    ("names of other files, refused", 120),
+const LEAST: [(&str, u64); 11] = [
+    ("names of other files, refused", 240),
     ("plans, solved", 120),
     ("plans, spent", 5),
     ("plans, refused", 25),
     ("remainders above 0, solved", 900),
     ("remainders above 0, spent", 2),
-    ("audits, accepted", 500),
+    ("finished plans, solved", 120),
+    ("finished plans, refused", 25),
+    ("finished to other tables", 10),
+    ("audits, accepted", 750),
     ("refused", 500),
 ];
+/// How many finishing runs must be spent.
+const LEAST_SPENT: (&str, u64) = ("finished plans, spent", 1);
 /// Files and tables far longer than any that could be meant, in bytes.
 const VERY_LONG: usize = 5_000_000;
 /// Lengths of files that hold more than they should: about a buffer of 65,536 bytes, and far above.
@@ -64,10 +73,20 @@ struct Day {
 }
 
 impl Day {
+    /// Runs `plan` on a file by a kind of run, with the names of the tables.
+    fn run_plan(&self, kind: Kind, file: &[u8]) -> Said {
+        self.plan.run(&self.folder, &[kind_words(kind), &NAMES].concat(), file)
+    }
+
     /// Plans a file with names, which may hold something before: where there are tables, old ones of the
     /// same lengths. Gives what the paper asks for.
-    fn plan(&mut self, file: &[u8], mut before: impl FnMut(Option<usize>) -> Old) -> Planned {
-        let asked = planned(file);
+    fn plan(
+        &mut self,
+        kind: Kind,
+        file: &[u8],
+        mut before: impl FnMut(Option<usize>) -> Old,
+    ) -> Planned {
+        let asked = planned_by(kind, file);
         let lengths = match &asked.tables {
             Some(tables) => [Some(4 * tables.values.len()), Some(2 * tables.picks.len())],
             None => [None, None],
@@ -76,7 +95,7 @@ impl Day {
         for (name, bytes) in NAMES.iter().zip(&before) {
             self.folder.put(name, bytes.as_deref());
         }
-        let said = self.plan.run(&self.folder, &NAMES, file);
+        let said = self.run_plan(kind, file);
         let lines = Said::only(asked.lines.clone());
         self.tally.hold("plan's lines", &said, &lines);
         let after = match &asked.tables {
@@ -92,7 +111,7 @@ impl Day {
 
     /// Plans a file that passes over one name that holds something of another length: it stays, and
     /// there is no plan.
-    fn plan_over_another(&mut self, random: &mut Random, file: &[u8], tables: &Tables) {
+    fn plan_over_another(&mut self, random: &mut Random, kind: Kind, file: &[u8], tables: &Tables) {
         let mut before = tables.clone();
         let at = random.below(2);
         before[at] = any_bytes(random);
@@ -103,7 +122,7 @@ impl Day {
         for (name, bytes) in NAMES.iter().zip(&before) {
             self.folder.put(name, Some(bytes));
         }
-        let said = self.plan.run(&self.folder, &NAMES, file);
+        let said = self.run_plan(kind, file);
         self.tally.hold("plan's lines", said.output.as_str(), "");
         self.tally.hold("the message", said.messages.as_str(), &taken(NAMES[at], tables[at].len()));
         let after = NAMES.map(|name| self.folder.get(name).unwrap_or_default());
@@ -126,36 +145,80 @@ impl Day {
         verdict
     }
 
+    /// The tables as they stand under their names.
+    fn written(&self) -> Tables {
+        NAMES.map(|name| self.folder.get(name).unwrap_or_default())
+    }
+
+    /// Audits the tables of a solved run: they are accepted, with the C that its first line ends with.
+    fn audit_solved(&mut self, file: &[u8], tables: &Tables, solved: &str) {
+        let least_cost = solved.rsplit(' ').next().unwrap_or_default();
+        let verdict = self.audit(file, tables);
+        let asked = format!("accepted {least_cost}\n");
+        self.tally.hold("the verdict on a solved run", &audit_line(verdict), &asked);
+    }
+
+    /// The day of a file, with a plain run and with one that finishes.
+    fn compare(&mut self, random: &mut Random, case: &str, file: &[u8]) {
+        self.compare_plain(random, case, file);
+        self.compare_finished(random, case, file);
+    }
+
     /// The day of a file: planned over old tables or none, audited as written, a tick higher, and
     /// with damage.
-    fn compare(&mut self, random: &mut Random, case: &str, file: &[u8]) {
+    fn compare_plain(&mut self, random: &mut Random, case: &str, file: &[u8]) {
         self.tally.case = case.into();
         self.folder.put("file", Some(file));
         let before = |length| random.once_in(2).then(|| any_of(random, length));
-        let Planned { lines, tables: Some(tables) } = self.plan(file, before) else {
+        let Planned { lines, tables: Some(tables) } = self.plan(Kind::Plain, file, before) else {
             self.tally.count_on(file, "plans, refused");
             self.audit(file, &[any_bytes(random), any_bytes(random)]);
             return;
         };
-        let written = NAMES.map(|name| self.folder.get(name).unwrap_or_default());
-        self.plan_over_another(random, file, &written);
-        let verdict = self.audit(file, &written);
+        let written = self.written();
+        self.plan_over_another(random, Kind::Plain, file, &written);
         let remainders = remainders_from(1, &lines);
-        if let Some(solved) = lines.lines().next().and_then(|line| line.strip_prefix("solved ")) {
-            let least_cost = solved.rsplit(' ').next().unwrap_or_default();
+        if let Some(solved) = solved_line(&lines) {
             self.tally.count_on(file, "plans, solved");
             self.tally.count_all_on(file, "remainders above 0, solved", remainders);
-            let asked = format!("accepted {least_cost}\n");
-            self.tally.hold("the verdict on a solved run", &audit_line(verdict), &asked);
+            self.audit_solved(file, &written, solved);
         } else {
             self.tally.count_on(file, "plans, spent");
             self.tally.count_all_on(file, "remainders above 0, spent", remainders);
+            self.audit(file, &written);
         }
         self.raise_a_tick(random, file, &tables);
         for _ in 0..DAMAGES {
             let tables = damaged_tables(random, &tables);
             self.audit(file, &tables);
         }
+    }
+
+    /// The finishing run of a file: planned over old tables or none, and audited as written, under the
+    /// file's tolerance and under 1.
+    fn compare_finished(&mut self, random: &mut Random, case: &str, file: &[u8]) {
+        self.tally.case = format!("{case}, to the tick");
+        self.folder.put("file", Some(file));
+        let before = |length| random.once_in(2).then(|| any_of(random, length));
+        let Planned { lines, tables: Some(tables) } = self.plan(Kind::Finishing, file, before)
+        else {
+            self.tally.count_on(file, "finished plans, refused");
+            return;
+        };
+        let written = self.written();
+        self.plan_over_another(random, Kind::Finishing, file, &written);
+        let Some(solved) = solved_line(&lines) else {
+            self.tally.count_on(file, LEAST_SPENT.0);
+            return;
+        };
+        self.tally.count_on(file, "finished plans, solved");
+        if planned(file).tables.is_some_and(|plain| plain.values != tables.values) {
+            self.tally.count_on(file, "finished to other tables");
+        }
+        self.audit_solved(file, &written, solved);
+        let under_1 = with_tolerance(file, FINISHING_TOLERANCE);
+        self.folder.put("file", Some(&under_1));
+        self.audit_solved(&under_1, &written, solved);
     }
 
     /// One value a tick higher: at the start of the table, and at any state.
@@ -173,22 +236,52 @@ impl Day {
 
     /// The paper's own words: P's tables pass, and with V(0) 370,001 they meet 17, row 0, excess 1.
     fn compare_p(&mut self) {
-        self.tally.case = "P in the paper's words".into();
-        let names = ["file", NAMES[0], NAMES[1]];
-        let file = file_p().bytes();
-        self.folder.put("file", Some(&file));
-        let lines = self.plan.run(&self.folder, &NAMES, &file).output;
-        self.tally.hold("plan", lines.as_str(), "solved 3 5 100000\n0 370000 0 0\n1 300000 2 0\n");
+        self.hold_lines(Kind::Plain, &file_p(), "solved 3 5 100000\n0 370000 0 0\n1 300000 2 0\n");
         for (value, asked) in [
             (370_000, "accepted 100000\n"),
             (370_001, "refused 17 0 1\n"),
             (369_999, "refused 19 0 -1\n"),
         ] {
-            let values = values_bytes(&[value, 300_000, 0]);
-            self.folder.put(NAMES[0], Some(&values));
-            let line = self.audit.run(&self.folder, &names, &[]).output;
-            self.tally.hold("audit", line.as_str(), asked);
+            self.folder.put(NAMES[0], Some(&values_bytes(&[value, 300_000, 0])));
+            self.hold_verdict(&file_p(), asked);
         }
+        let finished = "solved 4 7 100000\n0 370000 0 0\n1 300000 2 0\n";
+        self.hold_lines(Kind::Finishing, &file_p(), finished);
+    }
+
+    /// A coarse tolerance: the plain run's table is refused under 1, and the finishing run's accepted.
+    fn compare_coarse(&mut self) {
+        let mut under_1 = coarse();
+        under_1.settings[1] = FINISHING_TOLERANCE;
+        for (kind, lines, verdict) in [
+            (Kind::Plain, "solved 4 4 1000\n0 1443 0 519\n", "refused 19 0 -37\n"),
+            (Kind::Finishing, "solved 9 9 1000\n0 1498 0 834\n", "accepted 1000\n"),
+        ] {
+            self.clear();
+            self.hold_lines(kind, &coarse(), lines);
+            self.hold_verdict(&coarse(), "accepted 1000\n");
+            self.hold_verdict(&under_1, verdict);
+        }
+        self.clear();
+    }
+
+    /// Takes the tables away.
+    fn clear(&self) {
+        NAMES.iter().for_each(|name| self.folder.put(name, None));
+    }
+
+    /// Holds that `plan` prints so of a draft.
+    fn hold_lines(&mut self, kind: Kind, draft: &Draft, asked: &str) {
+        self.tally.case = format!("a {kind:?} run in the paper's words");
+        let lines = self.run_plan(kind, &draft.bytes()).output;
+        self.tally.hold("plan", lines.as_str(), asked);
+    }
+
+    /// Holds that `audit` prints so of a draft and the tables that stand in the folder.
+    fn hold_verdict(&mut self, draft: &Draft, asked: &str) {
+        self.folder.put("file", Some(&draft.bytes()));
+        let line = self.audit.run(&self.folder, &["file", NAMES[0], NAMES[1]], &[]).output;
+        self.tally.hold("audit", line.as_str(), asked);
     }
 
     /// Inputs far longer than a file or a table that could be meant, and empty ones.
@@ -204,7 +297,7 @@ impl Day {
                 long.resize(length, 0);
                 self.folder.put("file", Some(&long));
                 self.audit(&long, &tables);
-                self.plan(&long, |_| None);
+                self.plan(Kind::Plain, &long, |_| None);
             }
         }
         for (case, file) in [("empty", vec![]), ("noise", noise(random, VERY_LONG))] {
@@ -218,14 +311,17 @@ impl Day {
         for fourth in FOURTHS {
             let [p, one_state, stick] =
                 [file_p(), one_state(), stick()].map(|draft| with_total(&draft, fourth));
-            for draft in [&p, &one_state, &stick, &endless(fourth)] {
-                self.compare(random, &format!("fourth setting {fourth:?}"), &draft.bytes());
+            let case = format!("fourth setting {fourth:?}");
+            for draft in [&p, &one_state, &stick, &with_total(&coarse(), fourth)] {
+                self.compare(random, &case, &draft.bytes());
             }
+            self.compare_plain(random, &case, &endless(fourth).bytes());
             for (refusal, file) in one_wrong_each(&stick) {
-                let case = format!("fourth setting {fourth:?}, wrong for {refusal:?}");
-                self.compare(random, &case, &file);
+                self.compare(random, &format!("{case}, wrong for {refusal:?}"), &file);
             }
         }
+        let coarse = with_tolerance(&endless(None).bytes(), MAX_TOLERANCE);
+        self.compare_finished(random, "a run that is spent in the second part", &coarse);
     }
 
     /// Either table very long, with zeros and with the highest entries, and empty.
@@ -244,6 +340,11 @@ impl Day {
             self.audit(file, &empty);
         }
     }
+}
+
+/// What follows the word `solved` on a plan's first line, where it is there.
+fn solved_line(lines: &str) -> Option<&str> {
+    lines.lines().next().and_then(|line| line.strip_prefix("solved "))
 }
 
 /// Bytes of any length, a few or more than the largest table has.
@@ -315,10 +416,11 @@ fn main() -> ExitCode {
     let (plan, audit) = (Program::named(1, "plan"), Program::named(2, "audit"));
     let (seed, files) = (argument(3, 1), argument(4, 300));
     let folder = Folder::new("compare-programs");
-    let tally = Tally::default().in_each_total(&LEAST);
+    let tally = Tally::asking(&[LEAST_SPENT]).in_each_total(&LEAST);
     let tally = tally.meeting(FILE_QUESTIONS, LEAST_OF_FILES).meeting(15..=19, LEAST_MET);
     let mut day = Day { plan, audit, folder, tally };
     day.compare_p();
+    day.compare_coarse();
     day.compare_lengths(&mut Random::new(seed));
     day.compare_totals(&mut Random::new(seed));
     for number in 0..files {

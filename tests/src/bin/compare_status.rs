@@ -8,12 +8,14 @@
 use comparisons::encode::Draft;
 use comparisons::examples::{file_p, stick, with_total};
 use comparisons::extremes::{at_limits, deep_chain, endless};
+use comparisons::finishing::coarse;
 use comparisons::harness::Tally;
 use comparisons::limits::MAX_STATES;
-use comparisons::listing::{plan_lines, planned};
-use comparisons::programs::{run_to_end, said, start, Folder, Program};
+use comparisons::listing::{plan_lines, planned, planned_by, Planned};
+use comparisons::programs::{kind_words, run_to_end, said, start, Folder, Program, PLAN_USAGE};
 use comparisons::random::Random;
 use comparisons::sheets::sheets;
+use comparisons::solver::{Kind, KINDS};
 use comparisons::table_files::{picks_bytes, values_bytes};
 use std::ffi::{OsStr, OsString};
 use std::io::{Read, Write};
@@ -25,11 +27,12 @@ use std::process::{Child, Command, ExitCode, Output, Stdio};
 use std::time::{Duration, Instant};
 
 /// How often each status must be met.
-const LEAST: [(&str, u64); 7] = [
-    ("status 0", 8),
-    ("status 1", 8),
-    ("status 2", 40),
-    ("status 3", 2),
+const LEAST: [(&str, u64); 8] = [
+    ("status 0", 20),
+    ("status 1", 16),
+    ("status 2", 60),
+    ("status 3", 4),
+    ("tables written with --finish", 6),
     ("builds", 12),
     ("starts without a build", 7),
     ("ended", 8),
@@ -115,6 +118,13 @@ struct Left {
     files: Vec<(String, Option<Vec<u8>>)>,
 }
 
+impl Left {
+    /// The bytes of a file, none where there is no such file.
+    fn file(&self, name: &str) -> Option<Vec<u8>> {
+        self.files.iter().find(|(own, _)| own == name).and_then(|(_, bytes)| bytes.clone())
+    }
+}
+
 impl Room {
     /// Runs a program or its script in a folder of its own, with P and P's tables.
     fn run<N: AsRef<OsStr>>(
@@ -141,7 +151,7 @@ impl Room {
         (Left { output: ended.stdout, messages: ended.stderr, files }, ended.status.code())
     }
 
-    /// Holds that a script does what its program does, and ends with a status.
+    /// Holds that a script does what its program does, and ends with a status. Gives what it left.
     fn compare<N: AsRef<OsStr>>(
         &mut self,
         of: fn(&Room) -> &Pair,
@@ -149,7 +159,7 @@ impl Room {
         names: &[N],
         input: &[u8],
         asked: i32,
-    ) {
+    ) -> Left {
         let shown: Vec<_> = names.iter().map(|name| name.as_ref().to_string_lossy()).collect();
         self.tally.case = format!("{} {shown:.40?}, {way}", of(self).program.display());
         let pair = of(self);
@@ -157,11 +167,32 @@ impl Room {
         let (own, _) = self.run(&pair.program, way, names, input);
         self.tally.hold("what is left", &given, &own);
         self.hold_status(status, asked);
+        given
     }
 
     fn hold_status(&mut self, given: Option<i32>, asked: i32) {
         self.tally.hold("the status", &given, &Some(asked));
         self.tally.count(["status 0", "status 1", "status 2", "status 3"][asked as usize]);
+    }
+
+    /// Plans a file by a kind of run, without names and with two that are new, and holds the lines and the
+    /// tables.
+    fn compare_plan(&mut self, kind: Kind, file: &[u8], asked: i32) {
+        let Planned { lines, tables } = planned_by(kind, file);
+        let words = kind_words(kind);
+        let left = self.compare(|r| &r.plan, WHOLE, words, file, asked);
+        self.tally.hold("the lines", &left.output[..], lines.as_bytes());
+        let named = [words, &["new", "newer"]].concat();
+        let left = self.compare(|r| &r.plan, WHOLE, &named, file, asked);
+        self.tally.hold("the lines with names", &left.output[..], lines.as_bytes());
+        let written = ["new", "newer"].map(|name| left.file(name));
+        let tables =
+            tables.map(|tables| [values_bytes(&tables.values), picks_bytes(&tables.picks)]);
+        if kind == Kind::Finishing && tables.is_some() {
+            self.tally.count("tables written with --finish");
+        }
+        let asked = tables.map_or([None, None], |tables| tables.map(Some));
+        self.tally.hold("the tables", &written, &asked);
     }
 
     /// Plans of every kind, with tables and without.
@@ -176,15 +207,44 @@ impl Room {
             (in_100.with_fourth(Some(99)).bytes(), 1),
             (at_limits(random, true, 5_000, None).bytes(), 0),
             (deep_chain(random, MAX_STATES, 8, true, Some(10_000)).bytes(), 0),
+            (coarse().bytes(), 0),
             (endless(None).bytes(), 3),
             (vec![], 1),
             (cut(file_p()), 1),
             (vec![0; 5_000_000], 1),
         ] {
-            self.compare(|r| &r.plan, WHOLE, &[""; 0], &file, asked);
-            self.compare(|r| &r.plan, WHOLE, &["new", "newer"], &file, asked);
+            for kind in KINDS {
+                self.compare_plan(kind, &file, asked);
+            }
         }
         self.compare(|r| &r.plan, WHOLE, &["values", "picks"], &file_p().bytes(), 0);
+        self.compare(|r| &r.plan, WHOLE, &["--finish", "values", "picks"], &file_p().bytes(), 0);
+    }
+
+    /// `--finish` where it does not count, and names after it that cannot be written: the status is 2.
+    fn compare_finish(&mut self) {
+        for words in [
+            &["values", "picks", "--finish"][..],
+            &["values", "--finish"],
+            &["--finish", "values"],
+            &["--finish", "--finish"],
+            &["--finish", "--finish", "values", "picks"],
+            &["--finish", "values", "picks", "new"],
+            &["--finish", "-v", "picks"],
+            &["--finishing"],
+            &["--finishing", "values", "picks"],
+            &["--Finish"],
+            &["--finis"],
+            &["finish"],
+        ] {
+            let left = self.compare(|r| &r.plan, WHOLE, words, &file_p().bytes(), 2);
+            self.tally.hold("the message", &left.messages[..], PLAN_USAGE.as_bytes());
+            self.tally.hold("the lines", &left.output[..], b"");
+        }
+        for names in [["file", "new"], ["new", "file"], ["nowhere/new", "new"], ["new", "new"]] {
+            let words = [kind_words(Kind::Finishing), &names].concat();
+            self.compare(|r| &r.plan, WHOLE, &words, &file_p().bytes(), 2);
+        }
     }
 
     /// Names that cannot be written, or are those of other files, or begin with `-`: the status is 2.
@@ -578,6 +638,7 @@ fn main() -> ExitCode {
     let sheet = Pair::named(3, "sheet");
     let mut room = Room { plan, audit, sheet, tally: Tally::asking(&LEAST) };
     room.compare_plans();
+    room.compare_finish();
     room.compare_unwritable();
     room.compare_audits();
     room.compare_sheets();

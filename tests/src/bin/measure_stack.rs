@@ -13,7 +13,7 @@ use comparisons::limits::PLAN_ROUNDS;
 use comparisons::listing::{audit_line, planned};
 use comparisons::programs::{run, said, start, Folder, Program};
 use comparisons::sheets::sheets;
-use comparisons::solver::OwnedTables;
+use comparisons::solver::{Kind, OwnedTables};
 use comparisons::table_files::{picks_bytes, values_bytes};
 use comparisons::totals::Fourth;
 use std::process::Command;
@@ -31,9 +31,9 @@ const START: Record = Record { state: 0, moves: 0, seconds: 0, mark: 0 };
 /// Runs a program under a limit.
 const LIMITED: &str = "ulimit \"$1\" \"$2\"; shift 2; exec \"$@\"";
 
-/// The product's run on the file.
-fn solve(file: &[u8], tables: &mut OwnedTables) {
-    let code = library::solve(file, PLAN_ROUNDS, tables.lend(), &mut [0; ANSWER]);
+/// The product's run of a kind on the file.
+fn run_library(kind: Kind, file: &[u8], tables: &mut OwnedTables) {
+    let code = library::run(kind, file, PLAN_ROUNDS, tables.lend(), &mut [0; ANSWER]);
     assert_eq!(code, SOLVED);
 }
 
@@ -82,7 +82,8 @@ fn child(function: &str, kib: &str) {
     let mut tables = planned(&file).tables.expect("whole");
     let thread = std::thread::Builder::new().stack_size(stack);
     let work = move || match function.as_str() {
-        "solve" => solve(&file, &mut tables),
+        "solve" => run_library(Kind::Plain, &file, &mut tables),
+        "finish" => run_library(Kind::Finishing, &file, &mut tables),
         "audit" => audit(&file, &mut tables),
         "open" => open(&file, &mut tables),
         "report" => report(&file, &mut tables),
@@ -137,7 +138,7 @@ fn main() {
         [_, word, function, kib] if word == "child" => return child(function, kib),
         _ => {}
     }
-    for function in ["solve", "audit", "check", "rows", "open", "report", "set_form"] {
+    for function in ["solve", "finish", "audit", "check", "rows", "open", "report", "set_form"] {
         println!("cuulipso_{function}: {} KiB of stack", least(|kib| library_does(function, kib)));
     }
     let file = deepest(LARGEST).bytes();

@@ -10,13 +10,13 @@ use Rattle.plan.proofs.plan_input.Statement.{statement}
 use Rattle.plan.proofs.plan_input.Tie as tie
 
 -- what is told lies within what was lent
-text-within : (c : tie.After-plan) → c .plan .result .length ≤ length (c .plan .last .1 .1 .1 .1 .0)
+text-within : (c : tie.After-plan) → c .plan .result .length ≤ length (c .plan .last .1 .1 .1 .1 .1 .0)
 text-within c = c .plan .ensures _ (read-all (c .before .before .before .before .before .before .before .before .read-whole .last .1 .0) (c .before .before .before .before .before .before .before .before .read-whole .result .length)) .text .within
 
-values-hold : (c : tie.After-plan) → c .plan .result .states ≤ length (c .plan .last .1 .1 .0)
+values-hold : (c : tie.After-plan) → c .plan .result .states ≤ length (c .plan .last .1 .1 .1 .0)
 values-hold c = c .plan .ensures _ (read-all (c .before .before .before .before .before .before .before .before .read-whole .last .1 .0) (c .before .before .before .before .before .before .before .before .read-whole .result .length)) .values-hold
 
-picks-hold : (c : tie.After-plan) → c .plan .result .states ≤ length (c .plan .last .1 .1 .1 .0)
+picks-hold : (c : tie.After-plan) → c .plan .result .states ≤ length (c .plan .last .1 .1 .1 .1 .0)
 picks-hold c = c .plan .ensures _ (read-all (c .before .before .before .before .before .before .before .before .read-whole .last .1 .0) (c .before .before .before .before .before .before .before .before .read-whole .result .length)) .picks-hold
 
 large-buffer-requires : tie.Need-large-buffer-requires

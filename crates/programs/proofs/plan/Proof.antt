@@ -17,10 +17,10 @@ use Rattle.programs.proofs.plan.Statement.{statement}
 use Rattle.programs.proofs.plan.Tie as tie
 
 -- the states lie within the walk list
-walk-room : (c : tie.After-run) → c .run .result .states ≤ length (c .run .last .1 .1 .1 .1 .0)
+walk-room : (c : tie.After-run) → c .run .result .states ≤ length (c .run .last .1 .1 .1 .1 .1 .0)
 walk-room c =
-    let room = run-room _ _ (answer-known (c .run .result .answer) _ (c .run .ensures .leaves .answer)) (c .run .ensures .states-are) in
-    le-trans (room .walk-room) (le-of-eq (sym (c .run .kept .1 .1 .1 .1 .0)))
+    let room = run-room _ _ _ (answer-known (c .run .result .answer) _ (c .run .ensures .leaves .answer)) (c .run .ensures .states-are) in
+    le-trans (room .walk-room) (le-of-eq (sym (c .run .kept .1 .1 .1 .1 .1 .0)))
 
 -- the rooms of what is lent
 file-long : (c : tie.After-front) → longestFile < length (c .before .before .args .file .now)
@@ -55,12 +55,12 @@ slice-aggregate-plan-text c = sym (length-take-le _ _ (walk-room (c .before .bef
 
 plan-text-requires : tie.Need-plan-text-requires
 plan-text-requires c κs =
-    let room = run-room _ _ (answer-known (c .before .before .before .before .before .before .before .before .before .before .before .run .result .answer) _ (c .before .before .before .before .before .before .before .before .before .before .before .run .ensures .leaves .answer)) (c .before .before .before .before .before .before .before .before .before .before .before .run .ensures .states-are) in
+    let room = run-room _ _ _ (answer-known (c .before .before .before .before .before .before .before .before .before .before .before .run .result .answer) _ (c .before .before .before .before .before .before .before .before .before .before .before .run .ensures .leaves .answer)) (c .before .before .before .before .before .before .before .before .before .before .before .run .ensures .states-are) in
     let listed = length-take-le _ _ (walk-room (c .before .before .before .before .before .before .before .before .before .before .before)) in
     record {
       states = le-trans (le-of-eq listed) (room .few);
-      values-long = le-trans (le-of-eq listed) (le-trans (room .values-room) (le-of-eq (sym (c .before .before .before .before .before .before .before .before .before .before .before .run .kept .1 .0))));
-      picks-long = le-trans (le-of-eq listed) (le-trans (room .picks-room) (le-of-eq (sym (c .before .before .before .before .before .before .before .before .before .before .before .run .kept .1 .1 .0))));
+      values-long = le-trans (le-of-eq listed) (le-trans (room .values-room) (le-of-eq (sym (c .before .before .before .before .before .before .before .before .before .before .before .run .kept .1 .1 .0))));
+      picks-long = le-trans (le-of-eq listed) (le-trans (room .picks-room) (le-of-eq (sym (c .before .before .before .before .before .before .before .before .before .before .before .run .kept .1 .1 .1 .0))));
       remainders-long =
           le-trans (le-of-eq listed) (le-trans (room .few) (le-of-eq (sym (table-long (c .before .before .before .before .before .before .before .before .before .before .before .run .ensures .remainders-are)))));
       remainders-low = λ s l. table-low (c .before .before .before .before .before .before .before .before .before .before .before .run .ensures .remainders-are) s (room .few) (le-trans l (le-of-eq listed));
@@ -70,9 +70,9 @@ returns : tie.Need-returns
 returns c =
     λ f read.
     plans-read f (file-long (c .before .before .before .before .before .before .before .before .before .before .before .before .before .before .before .before .before)) (read-front f (c .before .before .before .before .before .before .before .before .before .before .before .before .before .before .before .before .before .before .before .args .file .now) (c .before .before .before .before .before .before .before .before .before .before .before .before .before .before .before .before .before .before .before .args .read) refl read (c .before .before .before .before .before .before .before .before .before .before .before .before .before .before .before .before .before .front .ensures))
-    (plans _ _ _ (answer-known (c .before .before .before .before .before .before .before .before .before .before .before .before .run .result .answer) _ (c .before .before .before .before .before .before .before .before .before .before .before .before .run .ensures .leaves .answer)) (c .before .before .before .before .before .before .before .before .before .before .before .before .run .ensures .leaves .left)
+    (plans _ _ _ _ (answer-known (c .before .before .before .before .before .before .before .before .before .before .before .before .run .result .answer) _ (c .before .before .before .before .before .before .before .before .before .before .before .before .run .ensures .leaves .answer)) (c .before .before .before .before .before .before .before .before .before .before .before .before .run .ensures .leaves .left)
     (c .before .before .before .before .before .before .before .before .before .before .before .before .run .ensures .states-are) (walk-room (c .before .before .before .before .before .before .before .before .before .before .before .before)) (c .before .before .before .before .before .before .before .before .before .before .before .before .run .ensures .remainders-are) (values-long (c .before .before .before .before .before .before .before .before .before .before .before .before)) (picks-long (c .before .before .before .before .before .before .before .before .before .before .before .before))
-    (out-wide c) (c .before .before .before .before .before .before .before .before .before .before .before .before .run .kept .1 .0) (c .before .before .before .before .before .before .before .before .before .before .before .before .run .kept .1 .1 .0) (c .plan-text .ensures .0) (c .plan-text .ensures .1))
+    (out-wide c) (c .before .before .before .before .before .before .before .before .before .before .before .before .run .kept .1 .1 .0) (c .before .before .before .before .before .before .before .before .before .before .before .before .run .kept .1 .1 .1 .0) (c .plan-text .ensures .0) (c .plan-text .ensures .1))
 
 pub plan-spec : {M : Type 1} → statement M
 plan-spec =

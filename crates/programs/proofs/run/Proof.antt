@@ -16,29 +16,29 @@ solve-file-requires c κs = length-replicate {A = ℕ} indexSize 0
 
 states-of-requires : tie.Need-states-of-requires
 states-of-requires c κs =
-    record { budget = _; lent = _; answer-is = answer-known (c .before .before .before .before .before .before .before .before .solve-file .result) _ (c .before .before .before .before .before .before .before .before .solve-file .ensures .leaves .answer) }
+    record { kind = _; budget = _; lent = _; answer-is = answer-known (c .before .before .before .before .before .before .before .before .solve-file .result) _ (c .before .before .before .before .before .before .before .before .solve-file .ensures .leaves .answer) }
 
 remainders-of-requires : tie.Need-remainders-of-requires
 remainders-of-requires c κs =
-    let room = run-room _ _ (answer-known (c .before .before .before .before .before .before .before .before .before .before .before .before .solve-file .result) _ (c .before .before .before .before .before .before .before .before .before .before .before .before .solve-file .ensures .leaves .answer)) (c .before .before .before .states-of .ensures) in
+    let room = run-room _ _ _ (answer-known (c .before .before .before .before .before .before .before .before .before .before .before .before .solve-file .result) _ (c .before .before .before .before .before .before .before .before .before .before .before .before .solve-file .ensures .leaves .answer)) (c .before .before .before .states-of .ensures) in
     record {
       ready = λ some. c .before .before .before .before .before .before .before .before .before .before .before .before .solve-file .ensures .ready (run-said (c .before .before .before .before .before .before .before .before .before .before .before .before .solve-file .result) _ (le-trans some (le-of-eq (c .before .before .before .states-of .ensures))));
-      values-long = λ some. le-trans (room .states-room some) (le-of-eq (sym (c .before .before .before .before .before .before .before .before .before .before .before .before .solve-file .kept .1 .1 .0)));
-      picks-long = le-trans (room .picks-room) (le-of-eq (sym (c .before .before .before .before .before .before .before .before .before .before .before .before .solve-file .kept .1 .1 .1 .0)));
+      values-long = λ some. le-trans (room .states-room some) (le-of-eq (sym (c .before .before .before .before .before .before .before .before .before .before .before .before .solve-file .kept .1 .1 .1 .0)));
+      picks-long = le-trans (room .picks-room) (le-of-eq (sym (c .before .before .before .before .before .before .before .before .before .before .before .before .solve-file .kept .1 .1 .1 .1 .0)));
       few = room .few;
     }
 
 same-length : tie.Need-same-length
-same-length c = c .before .before .before .before .before .before .before .before .before .before .before .before .before .solve-file .kept .1 .1 .0
+same-length c = c .before .before .before .before .before .before .before .before .before .before .before .before .before .solve-file .kept .1 .1 .1 .0
 
 same-length-2 : tie.Need-same-length-2
-same-length-2 c = c .before .before .before .before .before .before .before .before .before .before .before .before .before .solve-file .kept .1 .1 .1 .0
+same-length-2 c = c .before .before .before .before .before .before .before .before .before .before .before .before .before .solve-file .kept .1 .1 .1 .1 .0
 
 same-length-3 : tie.Need-same-length-3
-same-length-3 c = c .before .before .before .before .before .before .before .before .before .before .before .before .before .solve-file .kept .1 .1 .1 .1 .0
+same-length-3 c = c .before .before .before .before .before .before .before .before .before .before .before .before .before .solve-file .kept .1 .1 .1 .1 .1 .0
 
 same-length-4 : tie.Need-same-length-4
-same-length-4 c = c .before .before .before .before .before .before .before .before .before .before .before .before .before .solve-file .kept .1 .1 .1 .1 .1 .0
+same-length-4 c = c .before .before .before .before .before .before .before .before .before .before .before .before .before .solve-file .kept .1 .1 .1 .1 .1 .1 .0
 
 returns : tie.Need-returns
 returns c =

@@ -6,10 +6,10 @@ use Rattle.programs.proofs.files.are_names.Statement.{statement}
 use Rattle.programs.proofs.files.are_names.Tie as tie
 
 abbrev Inv-loop : tie.InvT-loop
-Inv-loop count i₀ i = 1 ≤ i
+Inv-loop first count i₀ i = first ≤ i
 
 abbrev μ-loop : tie.MeasureT-loop
-μ-loop count i₀ i = count - i
+μ-loop first count i₀ i = count - i
 
 loop-holds : tie.Need-loop-holds Inv-loop μ-loop
 loop-holds c = search needs

@@ -1,44 +1,45 @@
--- `run` ends as the model's run: what is left of the run gives the same as the whole.
+-- `run` ends as the model's run of its kind: what is left of it, the other part included, gives the same as the whole.
 -- Made by `places make` from answers/run/run.ans: edit that file, and not this one.
 use mathlib.Core.Path.{_≡_, refl, sym, _∙_}
-use mathlib.Core.Bool.{true, true≢false}
+use mathlib.Core.Bool.{true, false, true≢false}
 use borrow.Author.Tests.{not-true, not-false}
 use Prim.Native.Nat.{_-_}
-use lib.ListN.{length, take}
+use mathlib.Core.List.{[]}
+use lib.ListN.{length}
 use Rattle.model.specs.Sections.{problemOf}
-use Rattle.model.specs.Rounds.{runFrom}
+use Rattle.model.specs.Rounds.{runFrom, goesOn}
 use Rattle.model.specs.Solution.{tables}
 use Rattle.backing.specs.Backable.{machine}
-use Rattle.solving.proofs.Running.{RunLeft, run-starts, next-round-room, run-goes-on, run-stands, run-solved, run-out-of-budget}
+use Rattle.solving.specs.Runs.{goingOn}
+use Rattle.solving.proofs.Running.{RunLeft, of-kind, run-starts, next-round-room, run-goes-on, part-ends, run-solved, run-out-of-budget}
+use borrow.Author.Needs.{needs}
 use native.Mathlib.Omega.{arith}
 use Rattle.solving.proofs.run.run.Statement.{statement}
 use Rattle.solving.proofs.run.run.Tie as tie
 
 abbrev Inv-loop : tie.InvT-loop
-Inv-loop
-    file index values₀ picks₀ remembered₀ list₀ states tolerance give budget log₀ rounds₀ count₀ listed₀
-    values picks remembered list log rounds count listed =
-    RunLeft file index tolerance budget
-    (runFrom (problemOf file) tolerance (budget - rounds₀) true rounds₀
-    (machine values₀ picks₀ remembered₀ (take listed₀ list₀) count₀ true))
-    list₀ (tables values picks remembered list) rounds count listed
+Inv-loop file index values₀ picks₀ remembered₀ list₀ states tolerance give budget log₀ goes-on₀ e₀ rounds₀ count₀ listed₀ values picks remembered list log goes-on e rounds count listed =
+    RunLeft file index budget
+    (goesOn (goingOn goes-on₀) (problemOf file) budget
+    (runFrom (problemOf file) e₀ budget true 0 (machine values₀ picks₀ remembered₀ [] 0 true)))
+    list₀ (tables values picks remembered list) goes-on e rounds count listed
     × (length values ≡ length values₀) × (length picks ≡ length picks₀)
     × (length remembered ≡ length remembered₀) × (length list ≡ length list₀)
 
 abbrev μ-loop : tie.MeasureT-loop
-μ-loop
-    file index values₀ picks₀ remembered₀ list₀ states tolerance give budget log₀ rounds₀ count₀ listed₀
-    values picks remembered list log rounds count listed =
-    budget - rounds
+μ-loop file index values₀ picks₀ remembered₀ list₀ states tolerance give budget log₀ goes-on₀ e₀ rounds₀ count₀ listed₀ values picks remembered list log goes-on e rounds count listed = budget - rounds
+
+is-finishing-requires : tie.Need-is-finishing-requires Inv-loop μ-loop
+is-finishing-requires c κs = search needs
 
 loop-holds : tie.Need-loop-holds Inv-loop μ-loop
-loop-holds c = (run-starts (c .before .before .before .before .before .pre .0) (c .before .before .before .before .before .pre .3), refl, refl, refl, refl)
+loop-holds c = (run-starts (c .before .before .before .before .before .before .pre .0), refl, refl, refl, refl)
 
 round-requires : tie.Need-round-requires Inv-loop μ-loop
 round-requires c κs = (
   c .before .before .before .before .before .before .loop .inv .0 .runnable,
-  c .before .before .before .before .before .before .before .before .before .before .before .before .pre .1,
-  next-round-room (c .before .before .before .before .before .before .loop .inv .0) (c .before .before .before .before .before .loop-test .taken) (c .before .before .before .before .before .before .before .before .before .before .before .before .pre .2),
+  c .before .before .before .before .before .before .before .before .before .before .before .before .before .pre .1,
+  next-round-room (c .before .before .before .before .before .before .loop .inv .0) (c .before .before .before .before .before .loop-test .taken) (c .before .before .before .before .before .before .before .before .before .before .before .before .before .pre .2),
 )
 
 same-length : tie.Need-same-length Inv-loop μ-loop
@@ -57,40 +58,55 @@ returns : tie.Need-returns Inv-loop μ-loop
 returns c = absurd (true≢false (sym (c .if1 .taken) ∙ (c .before .before .before .before .before .before .before .before .before .round .ensures .fine)))
 
 add-rounds : tie.Need-add-rounds Inv-loop μ-loop
-add-rounds c = omega (arith, c .before .before .before .before .before .before .before .before .before .before .before .before .before .before .before .loop-test .taken, c .before .before .before .before .before .before .before .before .before .before .before .before .before .before .before .before .before .before .before .before .before .before .pre .2)
+add-rounds c = omega (arith, c .before .before .before .before .before .before .before .before .before .before .before .before .before .before .before .loop-test .taken, c .before .before .before .before .before .before .before .before .before .before .before .before .before .before .before .before .before .before .before .before .before .before .before .pre .2)
 
 same-length-5 : tie.Need-same-length-5 Inv-loop μ-loop
-same-length-5 c = c .before .before .before .before .before .before .before .before .before .before .before .round .kept .1 .1 .0 ∙ (c .before .before .before .before .before .before .before .before .before .before .before .before .before .before .before .before .before .before .loop .inv .1)
+same-length-5 c = c .before .before .before .before .before .before .before .before .before .before .before .before .round .kept .1 .1 .0 ∙ (c .before .before .before .before .before .before .before .before .before .before .before .before .before .before .before .before .before .before .before .loop .inv .1)
 
 same-length-6 : tie.Need-same-length-6 Inv-loop μ-loop
-same-length-6 c = c .before .before .before .before .before .before .before .before .before .before .before .round .kept .1 .1 .1 .0 ∙ (c .before .before .before .before .before .before .before .before .before .before .before .before .before .before .before .before .before .before .loop .inv .2)
+same-length-6 c = c .before .before .before .before .before .before .before .before .before .before .before .before .round .kept .1 .1 .1 .0 ∙ (c .before .before .before .before .before .before .before .before .before .before .before .before .before .before .before .before .before .before .before .loop .inv .2)
 
 same-length-7 : tie.Need-same-length-7 Inv-loop μ-loop
-same-length-7 c = c .before .before .before .before .before .before .before .before .before .before .before .round .kept .1 .1 .1 .1 .0 ∙ (c .before .before .before .before .before .before .before .before .before .before .before .before .before .before .before .before .before .before .loop .inv .3)
+same-length-7 c = c .before .before .before .before .before .before .before .before .before .before .before .before .round .kept .1 .1 .1 .1 .0 ∙ (c .before .before .before .before .before .before .before .before .before .before .before .before .before .before .before .before .before .before .before .loop .inv .3)
 
 same-length-8 : tie.Need-same-length-8 Inv-loop μ-loop
-same-length-8 c = c .before .before .before .before .before .before .before .before .before .before .before .round .kept .1 .1 .1 .1 .1 .0 ∙ (c .before .before .before .before .before .before .before .before .before .before .before .before .before .before .before .before .before .before .loop .inv .4)
+same-length-8 c = c .before .before .before .before .before .before .before .before .before .before .before .before .round .kept .1 .1 .1 .1 .1 .0 ∙ (c .before .before .before .before .before .before .before .before .before .before .before .before .before .before .before .before .before .before .before .loop .inv .4)
 
 returns-2 : tie.Need-returns-2 Inv-loop μ-loop
 returns-2 c =
+    let still = not-true _ (c .before .if2 .taken) in
     record {
-      ends = run-solved (c .before .before .before .before .before .before .before .before .before .before .before .before .before .before .before .before .before .before .loop .inv .0) (c .before .before .before .before .before .before .before .before .before .before .before .round .ensures) (c .before .before .before .before .before .before .before .before .before .before .before .before .before .before .before .before .before .loop-test .taken)
-          (not-true _ (c .if2 .taken));
-      least = λ _. c .before .before .before .before .before .before .before .before .before .before .before .round .ensures .least (not-true _ (c .if2 .taken));
+      moved = false;
+      ends =
+          of-kind _ _ _ (c .before .before .before .before .before .before .before .before .before .before .before .before .before .before .before .before .before .before .before .before .is-finishing .ensures)
+          (run-solved (c .before .before .before .before .before .before .before .before .before .before .before .before .before .before .before .before .before .before .before .loop .inv .0) (c .before .before .before .before .before .before .before .before .before .before .before .before .round .ensures) (c .before .before .before .before .before .before .before .before .before .before .before .before .before .before .before .before .before .before .loop-test .taken) still (not-true _ (c .if3 .taken)));
+      few = c .before .before .before .before .before .before .before .before .before .before .before .before .round .ensures .few;
+      least = λ _. c .before .before .before .before .before .before .before .before .before .before .before .before .round .ensures .least still;
       no-least = λ q. absurd (true≢false q);
-      stands = run-stands (c .before .before .before .before .before .before .before .before .before .before .before .before .before .before .before .before .before .before .loop .inv .0) (c .before .before .before .before .before .before .before .before .before .before .before .round .ensures) (c .before .before .before .before .before .before .before .before .before .before .before .before .before .before .before .before .before .loop-test .taken) _ refl refl refl;
-      beyond = c .before .before .before .before .before .before .before .before .before .before .before .round .ensures .beyond ∙ (c .before .before .before .before .before .before .before .before .before .before .before .before .before .before .before .before .before .before .loop .inv .0 .beyond);
+      beyond = c .before .before .before .before .before .before .before .before .before .before .before .before .round .ensures .beyond ∙ (c .before .before .before .before .before .before .before .before .before .before .before .before .before .before .before .before .before .before .before .loop .inv .0 .beyond);
       fine = refl;
       no-row = refl;
     }
 
 loop-less : tie.Need-loop-less Inv-loop μ-loop
-loop-less c = omega (arith, c .before .before .before .before .before .before .before .before .before .before .before .before .before .before .before .before .before .loop-test .taken)
+loop-less c = omega (arith, c .before .before .before .before .before .before .before .before .before .before .before .before .before .before .before .before .before .before .loop-test .taken)
 
 loop-again : tie.Need-loop-again Inv-loop μ-loop
 loop-again c = (
-  run-goes-on (c .before .before .before .before .before .before .before .before .before .before .before .before .before .before .before .before .before .before .loop .inv .0) (c .before .before .before .before .before .before .before .before .before .before .before .round .ensures) (c .before .before .before .before .before .before .before .before .before .before .before .before .before .before .before .before .before .loop-test .taken)
-      (not-false _ (c .if2 .left)) (c .before .before .before .before .before .before .before .before .before .before .before .round .kept .1 .1 .1 .1 .1 .0),
+  part-ends (c .before .before .before .before .before .before .before .before .before .before .before .before .before .before .before .before .before .before .before .loop .inv .0) (c .before .before .before .before .before .before .before .before .before .before .before .before .round .ensures) (c .before .before .before .before .before .before .before .before .before .before .before .before .before .before .before .before .before .before .loop-test .taken) (not-true _ (c .before .if2 .taken)) (not-false _ (c .if3 .left))
+      (c .before .before .before .before .before .before .before .before .before .before .before .before .round .kept .1 .1 .1 .1 .1 .0),
+  c .before .before .before .before .before .before .before .before .before .before .before .before .round .kept .1 .1 .0 ∙ (c .before .before .before .before .before .before .before .before .before .before .before .before .before .before .before .before .before .before .before .loop .inv .1),
+  c .before .before .before .before .before .before .before .before .before .before .before .before .round .kept .1 .1 .1 .0 ∙ (c .before .before .before .before .before .before .before .before .before .before .before .before .before .before .before .before .before .before .before .loop .inv .2),
+  c .before .before .before .before .before .before .before .before .before .before .before .before .round .kept .1 .1 .1 .1 .0 ∙ (c .before .before .before .before .before .before .before .before .before .before .before .before .before .before .before .before .before .before .before .loop .inv .3),
+  c .before .before .before .before .before .before .before .before .before .before .before .before .round .kept .1 .1 .1 .1 .1 .0 ∙ (c .before .before .before .before .before .before .before .before .before .before .before .before .before .before .before .before .before .before .before .loop .inv .4),
+)
+
+loop-less-2 : tie.Need-loop-less-2 Inv-loop μ-loop
+loop-less-2 c = omega (arith, c .before .before .before .before .before .before .before .before .before .before .before .before .before .before .before .before .before .loop-test .taken)
+
+loop-again-2 : tie.Need-loop-again-2 Inv-loop μ-loop
+loop-again-2 c = (
+  run-goes-on (c .before .before .before .before .before .before .before .before .before .before .before .before .before .before .before .before .before .before .loop .inv .0) (c .before .before .before .before .before .before .before .before .before .before .before .round .ensures) (c .before .before .before .before .before .before .before .before .before .before .before .before .before .before .before .before .before .loop-test .taken) (not-false _ (c .if2 .left)) (c .before .before .before .before .before .before .before .before .before .before .before .round .kept .1 .1 .1 .1 .1 .0),
   c .before .before .before .before .before .before .before .before .before .before .before .round .kept .1 .1 .0 ∙ (c .before .before .before .before .before .before .before .before .before .before .before .before .before .before .before .before .before .before .loop .inv .1),
   c .before .before .before .before .before .before .before .before .before .before .before .round .kept .1 .1 .1 .0 ∙ (c .before .before .before .before .before .before .before .before .before .before .before .before .before .before .before .before .before .before .loop .inv .2),
   c .before .before .before .before .before .before .before .before .before .before .before .round .kept .1 .1 .1 .1 .0 ∙ (c .before .before .before .before .before .before .before .before .before .before .before .before .before .before .before .before .before .before .loop .inv .3),
@@ -112,10 +128,11 @@ same-length-12 c = c .before .loop .inv .4
 returns-3 : tie.Need-returns-3 Inv-loop μ-loop
 returns-3 c =
     record {
-      ends = run-out-of-budget (c .before .loop .inv .0) (c .loop-test .left);
+      moved = c .before .loop .inv .0 .moved;
+      ends = of-kind _ _ _ (c .before .before .is-finishing .ensures) (run-out-of-budget (c .before .loop .inv .0) (c .loop-test .left));
+      few = c .before .loop .inv .0 .few;
       least = λ q. absurd (true≢false (sym q));
       no-least = λ _. refl;
-      stands = record { within = c .before .loop .inv .0 .within; counted = c .before .loop .inv .0 .counted; few = c .before .loop .inv .0 .few };
       beyond = c .before .loop .inv .0 .beyond;
       fine = refl;
       no-row = refl;
@@ -125,6 +142,7 @@ pub run-spec : {M : Type 1} → statement M
 run-spec =
     tie.close
     (tie.spec Inv-loop μ-loop
+    is-finishing-requires
     loop-holds
     round-requires
     same-length
@@ -140,6 +158,8 @@ run-spec =
     returns-2
     loop-less
     loop-again
+    loop-less-2
+    loop-again-2
     same-length-9
     same-length-10
     same-length-11

@@ -1,4 +1,4 @@
--- `solve` hands over what `solve_file` answers; that the run ends and passes the audit are laws of the solution that it leaves.
+-- `solve` hands over what `solve_file` answers; that the run ends, passes the audit and, finished, is exact are laws of what it leaves.
 -- Made by `places make` from answers/solve/solve.ans: edit that file, and not this one.
 use Prim.Native.Nat.{ℕ}
 use lib.ListN.{length-replicate}
@@ -24,7 +24,7 @@ same-length-4 : tie.Need-same-length-4
 same-length-4 c = search needs
 
 returns : tie.Need-returns
-returns c = promised _ _ _ (c .before .before .before .before .before .before .before .before .solve-file .ensures .leaves)
+returns c = promised _ _ _ _ (c .before .before .before .before .before .before .before .before .solve-file .ensures .leaves)
 
 pub solve-spec : {M : Type 1} → statement M
 solve-spec =

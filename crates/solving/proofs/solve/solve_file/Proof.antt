@@ -16,7 +16,7 @@ enum-known-about-file c = search needs
 returns : tie.Need-returns
 returns c =
     record {
-      leaves = file-refused _ _ _ (sym (ap verdictOf (c .before .about-file .given .1)) ∙ (c .before .before .before .questions .ensures .verdict));
+      leaves = file-refused _ _ _ _ (sym (ap verdictOf (c .before .about-file .given .1)) ∙ (c .before .before .before .questions .ensures .verdict));
       left = c .before .before .before .questions .ensures .left;
       ready = λ ran. absurd (ran refl);
     }
@@ -37,7 +37,7 @@ returns-2 : tie.Need-returns-2
 returns-2 c =
     record {
       leaves =
-          tables-refused _ _ _
+          tables-refused _ _ _ _
           (sym (ap verdictOf (c .before .before .before .before .before .enum-told .given .1)) ∙ (c .before .before .before .before .before .before .before .questions .ensures .verdict))
           (sym (ap verdictOf (c .before .about-tables .given .1))
           ∙ (c .before .before .before .solve-questions .ensures ∙ tests-are _ _ _ (c .before .before .before .before .layout-of .ensures .states-are) (c .before .before .before .before .layout-of .ensures .rows-are)));
@@ -59,16 +59,16 @@ solve-ready-requires c κs =
     }
 
 same-length : tie.Need-same-length
-same-length c = c .before .before .before .before .before .before .before .before .solve-ready .kept .1 .1 .1 .0
+same-length c = c .before .before .before .before .before .before .before .before .solve-ready .kept .1 .1 .1 .1 .0
 
 same-length-2 : tie.Need-same-length-2
-same-length-2 c = c .before .before .before .before .before .before .before .before .solve-ready .kept .1 .1 .1 .1 .0
+same-length-2 c = c .before .before .before .before .before .before .before .before .solve-ready .kept .1 .1 .1 .1 .1 .0
 
 same-length-3 : tie.Need-same-length-3
-same-length-3 c = c .before .before .before .before .before .before .before .before .solve-ready .kept .1 .1 .1 .1 .1 .0
+same-length-3 c = c .before .before .before .before .before .before .before .before .solve-ready .kept .1 .1 .1 .1 .1 .1 .0
 
 same-length-4 : tie.Need-same-length-4
-same-length-4 c = c .before .before .before .before .before .before .before .before .solve-ready .kept .1 .1 .1 .1 .1 .1 .0
+same-length-4 c = c .before .before .before .before .before .before .before .before .solve-ready .kept .1 .1 .1 .1 .1 .1 .1 .0
 
 returns-3 : tie.Need-returns-3
 returns-3 c =

@@ -2,7 +2,6 @@
 -- Made by `places make` from answers/solve/solve_ready.ans: edit that file, and not this one.
 use mathlib.Core.Path.{_∙_}
 use Rattle.solving.proofs.Answering.{solvable-formed, long, start-scannable, tables-begun, start-runnable, run-leaves}
-use borrow.Author.Needs.{needs}
 use native.Mathlib.Omega.{arith}
 use Rattle.solving.proofs.solve.solve_ready.Statement.{statement}
 use Rattle.solving.proofs.solve.solve_ready.Tie as tie
@@ -32,31 +31,23 @@ remember-requires c κs = (
 give-up-cost-requires : tie.Need-give-up-cost-requires
 give-up-cost-requires c κs = (c .before .before .before .before .before .before .before .before .before .before .before .before .before .before .before .before .before .before .before .before .pre .ready .indexed .whole, solvable-formed (c .before .before .before .before .before .before .before .before .before .before .before .before .before .before .before .before .before .before .before .before .pre) .penalty-high)
 
-unbegun-requires : tie.Need-unbegun-requires
-unbegun-requires c κs = search needs
-
 run-requires : tie.Need-run-requires
 run-requires c κs =
-    let l = c .before .before .before .before .before .before .before .before .before .before .before .before .before .before .before .before .before .before .before .before .layout-of .ensures in (
+    let l = c .before .before .before .before .before .before .before .before .before .before .before .before .before .before .before .before .before .before .before .layout-of .ensures in (
       start-runnable
-          (tables-begun (c .before .before .before .before .before .before .before .before .before .before .before .before .before .before .before .before .before .before .before .before .before .before .before .before .before .before .pre) (l .states-are) (l .rows-are) (c .before .before .before .before .before .before .before .before .before .before .before .before .before .before .before .before .before .estimates .ensures) (c .before .before .before .before .before .before .before .before .before .before .before .before .before .no-picks .ensures) (c .before .before .before .before .before .before .before .before .remember .ensures)),
-      record { states = l .states-are; give = c .before .before .before .before .before .give-up-cost .ensures },
-      long (c .before .before .before .before .before .before .before .before .before .before .before .before .before .before .before .before .before .before .before .before .before .before .before .before .before .before .pre) .budget-high,
-      record {
-        within = rw (c .unbegun .ensures .0) (omega arith);
-        counted = rw (c .unbegun .ensures .0) (omega arith);
-        few = omega (arith, c .unbegun .ensures .1);
-      },
+          (tables-begun (c .before .before .before .before .before .before .before .before .before .before .before .before .before .before .before .before .before .before .before .before .before .before .before .before .before .pre) (l .states-are) (l .rows-are) (c .before .before .before .before .before .before .before .before .before .before .before .before .before .before .before .before .estimates .ensures) (c .before .before .before .before .before .before .before .before .before .before .before .before .no-picks .ensures) (c .before .before .before .before .before .before .before .remember .ensures)),
+      record { states = l .states-are; give = c .before .before .before .before .give-up-cost .ensures },
+      long (c .before .before .before .before .before .before .before .before .before .before .before .before .before .before .before .before .before .before .before .before .before .before .before .before .before .pre) .budget-high,
     )
 
 pad-requires : tie.Need-pad-requires
 pad-requires c κs = (
-  omega (arith, c .before .before .before .before .before .before .before .before .before .before .before .before .before .before .before .before .before .before .before .before .before .before .before .before .before .before .before .before .before .before .layout-of .ensures .states-are, c .before .before .before .before .before .before .before .before .before .run .ensures .stands .few),
+  omega (arith, c .before .before .before .before .before .before .before .before .before .before .before .before .before .before .before .before .before .before .before .before .before .before .before .before .before .before .before .before .before .layout-of .ensures .states-are, c .before .before .before .before .before .before .before .before .before .run .ensures .few),
   omega (
     arith,
-    c .before .before .before .before .before .before .before .before .before .before .before .before .before .before .before .before .before .before .before .before .before .before .before .before .before .before .before .before .before .before .layout-of .ensures .states-are,
-    c .before .before .before .before .before .before .before .before .before .run .kept .1 .1 .1 .1 .1 .0,
-    long (c .before .before .before .before .before .before .before .before .before .before .before .before .before .before .before .before .before .before .before .before .before .before .before .before .before .before .before .before .before .before .before .before .before .before .before .before .pre) .list-long,
+    c .before .before .before .before .before .before .before .before .before .before .before .before .before .before .before .before .before .before .before .before .before .before .before .before .before .before .before .before .before .layout-of .ensures .states-are,
+    c .before .before .before .before .before .before .before .before .before .run .kept .1 .1 .1 .1 .1 .1 .0,
+    long (c .before .before .before .before .before .before .before .before .before .before .before .before .before .before .before .before .before .before .before .before .before .before .before .before .before .before .before .before .before .before .before .before .before .before .before .pre) .list-long,
   ),
 )
 
@@ -64,24 +55,23 @@ answer-requires : tie.Need-answer-requires
 answer-requires c κs = c .before .before .before .before .before .before .before .before .before .before .before .before .run .ensures .fine
 
 same-length : tie.Need-same-length
-same-length c = c .before .before .before .before .before .before .before .before .before .before .before .before .before .run .kept .1 .1 .0 ∙ (c .before .before .before .before .before .before .before .before .before .before .before .before .before .before .before .before .before .before .before .before .before .before .before .before .before .before .before .before .before .before .before .estimates .kept .1 .1 .0)
+same-length c = c .before .before .before .before .before .before .before .before .before .before .before .before .before .run .kept .1 .1 .1 .0 ∙ (c .before .before .before .before .before .before .before .before .before .before .before .before .before .before .before .before .before .before .before .before .before .before .before .before .before .before .before .before .before .before .estimates .kept .1 .1 .0)
 
 same-length-2 : tie.Need-same-length-2
-same-length-2 c = c .before .before .before .before .before .before .before .before .before .before .before .before .before .run .kept .1 .1 .1 .0 ∙ (c .before .before .before .before .before .before .before .before .before .before .before .before .before .before .before .before .before .before .before .before .before .before .before .before .before .before .before .no-picks .kept .0)
+same-length-2 c = c .before .before .before .before .before .before .before .before .before .before .before .before .before .run .kept .1 .1 .1 .1 .0 ∙ (c .before .before .before .before .before .before .before .before .before .before .before .before .before .before .before .before .before .before .before .before .before .before .before .before .before .before .no-picks .kept .0)
 
 same-length-3 : tie.Need-same-length-3
-same-length-3 c = c .before .before .before .before .before .before .before .before .before .before .before .before .before .run .kept .1 .1 .1 .1 .0 ∙ (c .before .before .before .before .before .before .before .before .before .before .before .before .before .before .before .before .before .before .before .before .before .before .remember .kept .1 .1 .1 .0)
+same-length-3 c = c .before .before .before .before .before .before .before .before .before .before .before .before .before .run .kept .1 .1 .1 .1 .1 .0 ∙ (c .before .before .before .before .before .before .before .before .before .before .before .before .before .before .before .before .before .before .before .before .before .remember .kept .1 .1 .1 .0)
 
 same-length-4 : tie.Need-same-length-4
-same-length-4 c = c .before .before .before .pad .kept .0 ∙ (c .before .before .before .before .before .before .before .before .before .before .before .before .before .run .kept .1 .1 .1 .1 .1 .0)
+same-length-4 c = c .before .before .before .pad .kept .0 ∙ (c .before .before .before .before .before .before .before .before .before .before .before .before .before .run .kept .1 .1 .1 .1 .1 .1 .0)
 
 returns : tie.Need-returns
 returns c =
-    let l = c .before .before .before .before .before .before .before .before .before .before .before .before .before .before .before .before .before .before .before .before .before .before .before .before .before .before .before .before .before .before .before .before .before .before .layout-of .ensures in
+    let l = c .before .before .before .before .before .before .before .before .before .before .before .before .before .before .before .before .before .before .before .before .before .before .before .before .before .before .before .before .before .before .before .before .before .layout-of .ensures in
     run-leaves
-    (tables-begun (c .before .before .before .before .before .before .before .before .before .before .before .before .before .before .before .before .before .before .before .before .before .before .before .before .before .before .before .before .before .before .before .before .before .before .before .before .before .before .before .before .pre) (l .states-are) (l .rows-are) (c .before .before .before .before .before .before .before .before .before .before .before .before .before .before .before .before .before .before .before .before .before .before .before .before .before .before .before .before .before .before .before .estimates .ensures) (c .before .before .before .before .before .before .before .before .before .before .before .before .before .before .before .before .before .before .before .before .before .before .before .before .before .before .before .no-picks .ensures) (c .before .before .before .before .before .before .before .before .before .before .before .before .before .before .before .before .before .before .before .before .before .before .remember .ensures))
-    (c .before .before .before .before .before .before .before .before .before .before .before .before .before .before .before .before .before .before .before .before .before .before .before .before .before .before .before .before .before .before .before .before .before .settings-of .ensures .tolerance-is)
-    (c .before .before .before .before .before .before .before .before .before .before .before .before .before .before .unbegun .ensures)
+    (tables-begun (c .before .before .before .before .before .before .before .before .before .before .before .before .before .before .before .before .before .before .before .before .before .before .before .before .before .before .before .before .before .before .before .before .before .before .before .before .before .before .before .pre) (l .states-are) (l .rows-are) (c .before .before .before .before .before .before .before .before .before .before .before .before .before .before .before .before .before .before .before .before .before .before .before .before .before .before .before .before .before .before .estimates .ensures) (c .before .before .before .before .before .before .before .before .before .before .before .before .before .before .before .before .before .before .before .before .before .before .before .before .before .before .no-picks .ensures) (c .before .before .before .before .before .before .before .before .before .before .before .before .before .before .before .before .before .before .before .before .before .remember .ensures))
+    (c .before .before .before .before .before .before .before .before .before .before .before .before .before .before .before .before .before .before .before .before .before .before .before .before .before .before .before .before .before .before .before .before .settings-of .ensures .tolerance-is)
     (c .before .before .before .before .before .before .before .before .before .before .before .before .before .run .ensures)
     (c .before .before .before .pad .ensures)
     (c .answer .ensures)
@@ -96,7 +86,6 @@ solve-ready-spec =
     no-picks-requires
     remember-requires
     give-up-cost-requires
-    unbegun-requires
     run-requires
     pad-requires
     answer-requires
