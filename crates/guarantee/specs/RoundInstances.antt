@@ -18,18 +18,19 @@ use Rattle.model.specs.Sections.{statesAt, rowsAt, outcomesAt, outcomesFrom, le
 use Rattle.model.specs.Questions.{passes}
 use Rattle.model.specs.Walk.{In, Reached, at-start, visitOutcomes, visitState, next, walk, pickCost, leastCost}
 use Rattle.model.specs.Rounds.{Machine, fillTo, machineStart, walked, scanOf, bellman, beats, evaluateOn, considerOn, consider}
-use Rattle.model.specs.Rounds.{takenIf, othersFrom, traverse, raiseOn, settle, backup}
+use Rattle.model.specs.Rounds.{takenIf, othersFrom, traverse, raiseOn, settle, backup, runFrom}
 use Rattle.model.specs.Carried.{counts}
 use Rattle.model.specs.Solution.{Solution, solveQuestions}
 use Rattle.model.specs.declared.Kind.the-variants.{Plain}
 use Rattle.model.specs.Following.{moved}
 use Rattle.guarantee.specs.Graphs.{clear-entry}
 use Rattle.guarantee.specs.Sound.{Allowed}
+use Rattle.guarantee.specs.Backups.{machineOf}
 use Rattle.guarantee.specs.Guarantee.{plan-gives-up-when-cheaper, Met, starts, walks, backs-up, built-on-bellman}
 use Rattle.guarantee.specs.Guarantee.{gives-up-when-cheaper, row-beats-giving-up, earlier-pick-wins, row-order-wins}
 use Rattle.guarantee.specs.Guarantee.{remembered-low, skipped-not-picked, values-rise, values-high, picks-held}
 use Rattle.guarantee.specs.Guarantee.{goals-unpicked, marks-are-reached, list-is-open-reached, list-holds-once}
-use Rattle.guarantee.specs.Guarantee.{least-at-most, least-is-one}
+use Rattle.guarantee.specs.Guarantee.{least-at-most, least-is-one, run-goes-on-met}
 use Rattle.guarantee.specs.Instances.{problemP, p-passes, computed, p-lent}
 
 -- P's first round meets a backup of the start, the only state of the first walk
@@ -39,6 +40,12 @@ firstP = walked problemP (machineStart problemP (lent 3 .values) (lent 3 .picks)
 pub p-met : Met problemP (lent 3) (0 ∷ []) firstP
 unfolding walk visitState visitOutcomes next machineStart fillTo problemOf statesAt rowsAt sumTo u16At u32At
 p-met = walks starts
+
+-- and a run with another tolerance, as E8's second part has it, ends at a machine that is met
+pub p-goes-on-met
+    : Met problemP (lent 3) []
+    (machineOf (runFrom problemP 999 2 true 0 (machineStart problemP (lent 3 .values) (lent 3 .picks) (lent 3 .remembered))))
+p-goes-on-met = run-goes-on-met problemP (lent 3) 999 2 true 0 _ starts
 
 pub p-bellman : scanOf problemP 0 firstP .best ≡ bellman problemP (byState (firstP .values)) 0
 p-bellman = built-on-bellman fileP planRounds (lent 3) p-passes (p-lent planRounds (omega arith)) p-met

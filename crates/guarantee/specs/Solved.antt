@@ -166,7 +166,7 @@ pub last-narrow : (kind : Kind) (p : Problem) → WellFormed p → lastTolerance
 last-narrow Plain p formed = omega arith
 last-narrow Finishing p formed = formed .tolerance-low
 
--- so are the tables of either kind of run
+-- the machine of a solved run of either kind is final, under the tolerance that it ends with
 pub run-final
     : (kind : Kind) (p : Problem) → WellFormed p → (budget : ℕ) (values picks remembered : List ℕ) (k : ℕ) (m : Machine)
     → Sound p (machineStart p values picks remembered) → runOf kind p budget values picks remembered ≡ solved k m
