@@ -6,8 +6,10 @@
  * What the caller sees to: the tables, the file, the answer and the record that are lent to one call do not overlap; each is aligned as
  * an array of its entries is, a file to any byte; a pointer may be anything only where its number of entries is 0.
  *
- * Stack, measured on the deepest file (docs/MEASURED.md): solve, finish, audit, open and report need 176 KiB, set_form 84 KiB, check
- * and rows 48 KiB. A thread may have less than the main program: give one that makes these calls 256 KiB. */
+ * A file is taken at any length; the longest that passes has CUULIPSO_FILE bytes.
+ *
+ * Stack, measured on the deepest file (docs/MEASURED.md): solve, finish, audit, open and report need 344 KiB, set_form 160 KiB, check
+ * and rows 88 KiB. A thread may have less than the main program: give one that makes these calls 512 KiB. */
 #ifndef CUULIPSO_H
 #define CUULIPSO_H
 
@@ -32,8 +34,9 @@ enum {
 /* Picks that are no row, and the mark of an unused entry of a walk list. */
 enum { CUULIPSO_NO_PICK = 65534, CUULIPSO_GIVE_UP = 65535, CUULIPSO_NO_STATE = 65535 };
 
-/* Entries that are always enough: states for values, picks and walk, rows for remembered. */
-enum { CUULIPSO_STATES = 1024, CUULIPSO_ROWS = 4096, CUULIPSO_ANSWER = 3 };
+/* Entries that are always enough: states for values, picks and walk, rows for remembered; and bytes that are enough for any file, or for
+ * its set form. */
+enum { CUULIPSO_STATES = 2048, CUULIPSO_ROWS = 8192, CUULIPSO_ANSWER = 3, CUULIPSO_FILE = 110616 };
 
 /* Puts questions 1 to 11 to a problem file; 24, about the fourth setting, belongs to them and comes right after 4. */
 uint8_t cuulipso_check(const uint8_t *file, size_t file_length,

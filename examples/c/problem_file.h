@@ -2,13 +2,15 @@
 #ifndef PROBLEM_FILE_H
 #define PROBLEM_FILE_H
 
+#include "cuulipso.h"
+
 #include <errno.h>
 #include <stdint.h>
 #include <stdio.h>
 #include <string.h>
 
-/* Longer than any file that passes. */
-enum { FILE_ROOM = 65536 };
+/* Room for any file that passes. */
+enum { FILE_ROOM = CUULIPSO_FILE };
 
 static uint8_t file[FILE_ROOM];
 static size_t file_length;
@@ -26,7 +28,7 @@ static int read_file(const char *program, const char *name)
         if (ferror(from))
             fault = strerror(errno);
         else if (more)
-            fault = "it is longer than 65,536 bytes, as no problem file is";
+            fault = "it is longer than 110,616 bytes, as no problem file is";
         fclose(from);
     }
     if (fault != NULL)

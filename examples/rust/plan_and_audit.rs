@@ -50,10 +50,10 @@ const ROUNDS: u64 = 1_000_000;
 
 /// Tables that are always long enough.
 struct Tables {
-    values: [u32; 1_024],
-    picks: [u16; 1_024],
-    remembered: [u32; 4_096],
-    walk: [u16; 1_024],
+    values: [u32; 2_048],
+    picks: [u16; 2_048],
+    remembered: [u32; 8_192],
+    walk: [u16; 2_048],
 }
 
 /// Puts questions 1 to 11; the question and place where one fails.
@@ -147,10 +147,10 @@ fn main() -> ExitCode {
     }
     println!("check: passed");
     let mut tables = Tables {
-        values: [0; 1_024],
-        picks: [0; 1_024],
-        remembered: [0; 4_096],
-        walk: [NO_STATE; 1_024],
+        values: [0; 2_048],
+        picks: [0; 2_048],
+        remembered: [0; 8_192],
+        walk: [NO_STATE; 2_048],
     };
     let (code, [rounds, evaluations, least]) = solve(&file, &mut tables);
     let word = if code == SOLVED { "solved" } else { "spent" };

@@ -68,15 +68,17 @@ fn damage_items(random: &mut Random, draft: &mut Draft) {
     }
 }
 
-/// Item counts at or past the ends of their ranges: questions 2, 7 and 9.
+/// Item counts at or past the ends of their ranges, which for some are those of before E9: questions 2, 7
+/// and 9.
 fn damage_lengths(random: &mut Random, draft: &mut Draft) {
+    let limits = random.pick(&[OLD, IN_FORCE]);
     match random.below(8) {
         0 => draft.settings.truncate(SETTINGS - 1),
         1 => draft.settings.resize(MOST_SETTINGS + 1, USUAL_TOTAL),
         2 => draft.states.clear(),
-        3 => repeat_to(&mut draft.states, MAX_STATES + random.below(2)),
-        4 => repeat_to(&mut draft.rows, MAX_ROWS + random.below(2)),
-        5 => repeat_to(&mut draft.outcomes, MAX_OUTCOMES + random.below(2)),
+        3 => repeat_to(&mut draft.states, limits.states + random.below(2)),
+        4 => repeat_to(&mut draft.rows, limits.rows + random.below(2)),
+        5 => repeat_to(&mut draft.outcomes, limits.outcomes + random.below(2)),
         6 => drop(draft.rows.pop()),
         _ => drop(draft.outcomes.pop()),
     }
@@ -293,7 +295,7 @@ fn lengthen(random: &mut Random, file: &mut Vec<u8>) {
     }
 }
 
-/// Changes a section's count: by one, or to an end of its range or past it.
+/// Changes a section's count: by one, or to an end of its range, or of that before E9, or past it.
 fn damage_count(random: &mut Random, file: &mut [u8], draft: &Draft) {
     let section = random.below(4);
     let at = section_starts(draft)[section];
@@ -301,7 +303,8 @@ fn damage_count(random: &mut Random, file: &mut [u8], draft: &Draft) {
         return;
     };
     let old = u16::from_le_bytes([count[0], count[1]]);
-    let most = [MOST_SETTINGS, MAX_STATES, MAX_ROWS, MAX_OUTCOMES][section] as u16;
+    let limits = random.pick(&[OLD, IN_FORCE]);
+    let most = [MOST_SETTINGS, limits.states, limits.rows, limits.outcomes][section] as u16;
     let by_one = [old.wrapping_add(1), old.wrapping_sub(1)];
     let new = random.pick(&[by_one[0], by_one[1], 0, most, most + 1, u16::MAX]);
     count.copy_from_slice(&new.to_le_bytes());

@@ -3,6 +3,7 @@
 
 use crate::limits::{MAX_IN_BYTE, SETTINGS};
 use crate::totals::{total_of, Fourth};
+use std::ops::Range;
 
 /// A state's 6 bytes.
 #[derive(Clone, Copy, Debug)]
@@ -101,6 +102,12 @@ impl Draft {
         }
         file
     }
+}
+
+/// Where the share of a place stands among so many items that are spread over so many places, as evenly as it
+/// goes.
+pub fn share(items: usize, places: usize, place: usize) -> Range<usize> {
+    items * place / places..items * (place + 1) / places
 }
 
 /// A section's 16-bit count.

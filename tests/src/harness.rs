@@ -8,7 +8,7 @@ use std::fmt::{Debug, Display, Formatter};
 use std::process::ExitCode;
 
 /// One past the highest question of document 01 and of the requests that are done.
-const QUESTIONS: usize = 25;
+const QUESTIONS: usize = 26;
 /// The question that no file meets which tells a total: 24 is met where the fourth setting is none, so
 /// of it there is no share to ask for.
 const NO_TOTAL: u64 = 24;

@@ -26,6 +26,7 @@ pub mod rate_table;
 pub mod set_form;
 pub mod sheets;
 pub mod solver;
+pub mod stored;
 pub mod table_files;
 pub mod timing;
 pub mod totals;

@@ -2,7 +2,7 @@
 //! goal, e 1, D 5,000, all H 0.
 
 use crate::encode::Draft;
-use crate::limits::{KIND_SECONDS, MAX_OUTCOMES};
+use crate::limits::{IN_FORCE, KIND_SECONDS, OLD};
 use crate::random::Random;
 use crate::totals::Fourth;
 
@@ -81,9 +81,11 @@ fn grid(random: &mut Random, state: usize, states: usize) -> Vec<usize> {
     vec![(state + step).min(states - 1), state, state.saturating_sub(1)]
 }
 
-/// As many successors as the file has room for, at most 32.
+/// As many successors as the file has room for, at most 32. A load within the old states keeps to the old
+/// outcomes, and so is what it was before E9.
 fn many(random: &mut Random, _: usize, states: usize) -> Vec<usize> {
-    let outcomes = (MAX_OUTCOMES / (ROWS * states)).min(32);
+    let limits = if states <= OLD.states { OLD } else { IN_FORCE };
+    let outcomes = (limits.outcomes / (ROWS * states)).min(32);
     (0..outcomes).map(|_| random.below(states)).collect()
 }
 
@@ -97,7 +99,7 @@ mod tests {
     fn loads_are_whole() {
         let mut random = Random::new(4);
         for (load, fourth) in LOADS.iter().flat_map(|load| FOURTHS.map(|fourth| (load, fourth))) {
-            for states in [16, 64, 256, 1_024] {
+            for states in [16, 64, 256, OLD.states, IN_FORCE.states] {
                 let file = load.file(&mut random, states, fourth);
                 assert!(Problem::read(&file).is_ok(), "{}, {fourth:?}", load.name);
             }

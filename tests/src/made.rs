@@ -162,14 +162,17 @@ fn any_successors(random: &mut Random, shape: Shape, state: usize, states: usize
 /// Adds a row to the last state, with any cost and any weights, where the file has room for it. It has
 /// no more outcomes than the total has units, since each weighs at least 1.
 pub fn add_any_row(random: &mut Random, draft: &mut Draft, successors: &[u16]) {
-    let total = draft.total();
-    let successors = &successors[..successors.len().min(total as usize)];
+    let successors = &successors[..successors.len().min(draft.total() as usize)];
     let outcomes = draft.outcomes.len() + successors.len();
-    if draft.rows.len() == MAX_ROWS || outcomes > MAX_OUTCOMES {
-        return;
+    if draft.rows.len() < MAX_ROWS && outcomes <= MAX_OUTCOMES {
+        add_row_to(random, draft, successors);
     }
+}
+
+/// Adds a row to the last state, with any cost and any weights.
+pub fn add_row_to(random: &mut Random, draft: &mut Draft, successors: &[u16]) {
     let (kind, cost) = any_cost(random);
-    let weights = any_weights(random, successors.len(), total);
+    let weights = any_weights(random, successors.len(), draft.total());
     let outcomes: Vec<(u16, u16)> = successors.iter().copied().zip(weights).collect();
     draft.add_row(kind, cost, &outcomes);
 }

@@ -121,7 +121,8 @@ fn back_up(
     (evaluations, !rises && pick == before)
 }
 
-/// One round. Gives the list of its walk, the evaluations made, and whether it was quiet.
+/// One round. E9: "Each walk then begins with 2,048 marks, all clear." Gives the list of its walk, the
+/// evaluations made, and whether it was quiet.
 fn round(
     problem: &Problem,
     tolerance: u32,

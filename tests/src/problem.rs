@@ -94,7 +94,13 @@ pub struct Problem {
 impl Problem {
     /// Reads a file, putting questions 1 to 11 in order.
     pub fn read(file: &[u8]) -> Result<Problem, Refusal> {
-        let sections = cut_sections(file)?;
+        Problem::read_within(&IN_FORCE, file)
+    }
+
+    /// Reads a file as one does who has these limits. E9: "An older reader meets a larger file with question
+    /// 2."
+    pub fn read_within(limits: &Counts, file: &[u8]) -> Result<Problem, Refusal> {
+        let sections = cut_sections(limits, file)?;
         let items = |section: usize| &file[sections[section].clone()];
         let state_count = items(1).len() / STATE_BYTES;
         let [start, tolerance, penalty, total] = read_settings(items(0), state_count)?;
@@ -120,6 +126,12 @@ impl Problem {
         Ok(problem)
     }
 
+    /// How many states, rows and outcomes it has.
+    pub fn counts(&self) -> Counts {
+        let (states, rows) = (self.states.len(), self.rows.len());
+        Counts { states, rows, outcomes: self.outcomes.len() }
+    }
+
     /// "Does each state obey section 1? 5 (state). Is the start no goal? 6 (the start's state
     /// number). Do the states' row numbers add to the row count? 7 (0)."
     fn read_states(&mut self, items: &[u8], row_count: usize) -> Result<(), Refusal> {
@@ -134,7 +146,7 @@ impl Problem {
             rows_before += usize::from(row_number);
             self.estimates.push(estimate);
             self.goals.push(goal == 1);
-            // The casts cut nothing where question 7 passes: the sum is then at most 4,096.
+            // The casts cut nothing where question 7 passes: the sum is then at most 8,192.
             self.states.push(State { first_row: first_row as u16, end_row: rows_before as u16 });
         }
         if self.goals[self.start] {
@@ -159,7 +171,7 @@ impl Problem {
             };
             let first_outcome = outcomes_before;
             outcomes_before += usize::from(outcome_number);
-            // The casts cut nothing where question 9 passes: the sum is then at most 8,192.
+            // The casts cut nothing where question 9 passes: the sum is then at most 16,384.
             self.rows.push(Row {
                 cost: TICKS * seconds,
                 first_outcome: first_outcome as u16,
@@ -321,20 +333,22 @@ struct Section {
     item_bytes: usize,
 }
 
-/// "Four sections in this order, each after its 16-bit count."
-const SECTIONS: [Section; 4] = [
-    Section { least: SETTINGS, most: MOST_SETTINGS, item_bytes: SETTING_BYTES },
-    Section { least: 1, most: MAX_STATES, item_bytes: STATE_BYTES },
-    Section { least: 0, most: MAX_ROWS, item_bytes: ROW_BYTES },
-    Section { least: 0, most: MAX_OUTCOMES, item_bytes: OUTCOME_BYTES },
-];
+/// "Four sections in this order, each after its 16-bit count", under limits.
+fn sections_within(limits: &Counts) -> [Section; 4] {
+    [
+        Section { least: SETTINGS, most: MOST_SETTINGS, item_bytes: SETTING_BYTES },
+        Section { least: 1, most: limits.states, item_bytes: STATE_BYTES },
+        Section { least: 0, most: limits.rows, item_bytes: ROW_BYTES },
+        Section { least: 0, most: limits.outcomes, item_bytes: OUTCOME_BYTES },
+    ]
+}
 
 /// "Section by section: are count bytes there? 1. Is the count in range? 2. Are all items there? 1.
 /// (Place: section.) Does the file end there? 3 (3)." Gives where each section's items stand.
-fn cut_sections(file: &[u8]) -> Result<[Range<usize>; 4], Refusal> {
+fn cut_sections(limits: &Counts, file: &[u8]) -> Result<[Range<usize>; 4], Refusal> {
     let mut cut = [const { 0..0 }; 4];
     let mut at = 0;
-    for (number, section) in SECTIONS.iter().enumerate() {
+    for (number, section) in sections_within(limits).iter().enumerate() {
         let first = at + COUNT_BYTES;
         let Some(count) = file.get(at..first) else {
             return Err(refused(1, number));
@@ -353,4 +367,55 @@ fn cut_sections(file: &[u8]) -> Result<[Range<usize>; 4], Refusal> {
         return Err(refused(3, 3));
     }
     Ok(cut)
+}
+
+#[cfg(test)]
+mod tests {
+    use super::*;
+    use crate::damage::damaged;
+    use crate::extremes::sized;
+    use crate::made::made;
+    use crate::random::Random;
+    use crate::totals::FOURTHS;
+
+    /// The refusal of a file, if any, by a reader with limits.
+    fn refusal(limits: &Counts, file: &[u8]) -> Option<Refusal> {
+        Problem::read_within(limits, file).err()
+    }
+
+    /// Files around the limits of either reader: each meets question 2 in the section that is too long for
+    /// it, the older one in every larger file.
+    #[test]
+    fn an_older_reader_meets_a_larger_file_with_question_2() {
+        let mut random = Random::new(16);
+        let around = OLD.around().into_iter().chain(IN_FORCE.around()).cycle();
+        for (counts, fourth) in around.zip(FOURTHS.into_iter().cycle()).take(70) {
+            let file = sized(&mut random, counts, true, 5_000, fourth).bytes();
+            for limits in [OLD, IN_FORCE] {
+                let asked = counts.beyond(&limits).map(|section| refused(2, section));
+                assert_eq!(refusal(&limits, &file), asked, "{counts:?} within {limits:?}");
+            }
+        }
+    }
+
+    /// "every stored file within the old counts .. gives the same answer".
+    #[test]
+    fn files_within_the_old_counts_are_read_the_same() {
+        let mut random = Random::new(17);
+        let (mut within, mut larger) = (0, 0);
+        for _ in 0..4_000 {
+            let draft = made(&mut random);
+            for file in [draft.bytes(), damaged(&mut random, &draft)] {
+                let [old, new] = [OLD, IN_FORCE].map(|limits| refusal(&limits, &file));
+                match old {
+                    Some(Refusal { question: 2, .. }) if old != new => larger += 1,
+                    _ => {
+                        assert_eq!(old, new);
+                        within += 1;
+                    }
+                }
+            }
+        }
+        assert!(within > 7_000 && larger > 50, "{within}, {larger}");
+    }
 }

@@ -46,6 +46,11 @@ pub fn total_of(fourth: Fourth) -> u32 {
     fourth.unwrap_or(USUAL_TOTAL)
 }
 
+/// The count of the settings of a file that tells it so.
+pub fn settings_of(fourth: Fourth) -> usize {
+    SETTINGS + usize::from(fourth.is_some())
+}
+
 /// One of the ways: each total in about a quarter of the draws, 1,000 by either count.
 pub fn any_fourth(random: &mut Random) -> Fourth {
     let total = random.pick(&TOTALS);

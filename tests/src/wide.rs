@@ -1,6 +1,6 @@
 //! Files whose rows have as many outcomes as a byte can say, in several orders.
 
-use crate::encode::Draft;
+use crate::encode::{share, Draft};
 use crate::limits::*;
 use crate::made::{any_cost, any_weights};
 use crate::random::Random;
@@ -26,7 +26,7 @@ pub const ORDERS: [Order; 5] =
     [Order::One, Order::Rising, Order::Falling, Order::Mixed, Order::Repeats];
 
 /// A file with 255 outcomes a row and as many rows as there is room for, then a row that fills the
-/// last of the 8,192 outcomes. Where there are fewer than 255 states, a row has as many outcomes as
+/// last of the 16,384 outcomes. Where there are fewer than 255 states, a row has as many outcomes as
 /// there are different states for it; and where the total is 100, no more than that.
 pub fn wide(random: &mut Random, states: usize, order: Order, fourth: Fourth) -> Draft {
     let mut draft = Draft::new(0, 1, 5_000).with_fourth(fourth);
@@ -36,7 +36,7 @@ pub fn wide(random: &mut Random, states: usize, order: Order, fourth: Fourth) ->
     let rows = MAX_OUTCOMES.div_ceil(each).min(MAX_ROWS).min(MAX_IN_BYTE * (states - 1));
     for state in 0..states - 1 {
         draft.add_state();
-        for _ in rows * state / (states - 1)..rows * (state + 1) / (states - 1) {
+        for _ in share(rows, states - 1, state) {
             let outcomes = each.min(MAX_OUTCOMES - draft.outcomes.len());
             let successors = successors(random, states, order, outcomes);
             let weights = any_weights(random, outcomes, total);
@@ -82,9 +82,9 @@ mod tests {
     fn wide_files_are_whole_and_full() {
         let mut random = Random::new(5);
         for (order, fourth) in ORDERS.into_iter().flat_map(|o| FOURTHS.map(|fourth| (o, fourth))) {
-            for states in [255, 256, 1_024] {
+            for states in [255, 256, MAX_STATES] {
                 let draft = wide(&mut random, states, order, fourth);
-                let (rows, each) = if draft.total() == 100 { (82, 100) } else { (33, 255) };
+                let (rows, each) = if draft.total() == 100 { (164, 100) } else { (65, 255) };
                 assert!(Problem::read(&draft.bytes()).is_ok(), "{order:?}, {fourth:?}");
                 assert_eq!(draft.outcomes.len(), MAX_OUTCOMES);
                 assert_eq!(draft.rows.len(), rows);

@@ -4,13 +4,15 @@ use libc::STDOUT_FILENO;
 use model::LINE_MOST;
 use printing::table_files::PICKS_ROOM;
 use printing::table_files::VALUES_ROOM;
+use programs::FILE_ROOM;
 use programs::files::are_names;
 use programs::files::fail;
 use programs::files::read_named;
 
-// A longer file gets the same answer as its first 65,536 bytes, and a longer table the same as its entries of states (`Audits`).
+// A file that is longer than the longest is refused as its front is, and a longer table gets the answer of its entries of states
+// (`Audits`).
 fn audit_named() {
-    let mut file = io::large_buffer();
+    let mut file = [0u8; FILE_ROOM];
     let a = read_named(b"audit", 1, &mut file);
     if a.failed {
         return;

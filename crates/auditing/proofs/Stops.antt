@@ -14,7 +14,7 @@ use Rattle.model.specs.Sections.{problemOf}
 use Rattle.model.specs.Value.{rowValue, byState}
 use Rattle.model.specs.Walk.{walk, leastCost}
 use Rattle.model.specs.Audit.{Audited, accepted, refused, pickValueOn, pickValue, unboundedState, strayState, slackState}
-use Rattle.model.specs.Audit.{tableQuestions, problemAudit, audit}
+use Rattle.model.specs.Audit.{tableQuestions, tableQuestionsWith, problemAuditWith, audit, auditWithin}
 use Rattle.guarantee.specs.Excess.{undercut-own}
 use Rattle.reading.specs.Ready.{Ready, Undercuts}
 use Rattle.checking.specs.IndexLeft.{indexLeft}
@@ -59,20 +59,20 @@ module _ {f index values picks : List ℕ} {n : ℕ} (asked : TablesAsked f inde
 
   module _ {unbounded : ℕ} (found : unbounded ≡ unboundedState (problemOf f) (byState values)) where
     pub table-stop-16 : unbounded < n → refused 16 unbounded (pos 0) ≡ tableQuestions (problemOf f) (byState values) (byState picks)
-    unfolding tableQuestions
+    unfolding tableQuestionsWith
     table-stop-16 h = rw (← found, no unbounded h) refl
 
     module _ (bounded : n ≤ unbounded) {s r : ℕ} (under : Undercuts f (byState values) s r) where
       pub table-stop-17 : {value : ℕ} {z : ℤ} → value ≡ rowValue (problemOf f) (byState values) r
           → z ≡ subℕ (getD values s 0) value → s < n → refused 17 r z ≡ tableQuestions (problemOf f) (byState values) (byState picks)
-      unfolding tableQuestions
+      unfolding tableQuestionsWith
       table-stop-17 e d h =
           let row = under .row-is (omega (arith, asked .states-are)) in
           ap (refused 17 r) d ∙ rw (← found, ← under .state-is, yes unbounded bounded, no s h, ← row, e) refl
 
       pub table-goes-on : {said : Audited} → said ≡ pickQuestions (problemOf f) (byState values) (byState picks) → n ≤ s
           → said ≡ tableQuestions (problemOf f) (byState values) (byState picks)
-      unfolding tableQuestions
+      unfolding tableQuestionsWith
       table-goes-on e h = e ∙ rw (← found, ← under .state-is, yes unbounded bounded, yes s h) refl
 
   -- the undercut row is a row of the file
@@ -91,21 +91,21 @@ module _ {f index values picks : List ℕ} {n : ℕ} (asked : TablesAsked f inde
 -- questions 1 to 11, then 15, and then the tables
 module _ (f values picks : List ℕ) where
   pub audit-stop-file : {q i : ℕ} → fileQuestions f ≡ fails q i → refused q i (pos 0) ≡ audit f values picks
-  unfolding audit
+  unfolding auditWithin
   audit-stop-file e = rw e refl
 
   module _ (passed : fileQuestions f ≡ passes) {n : ℕ} (states-are : n ≡ problemOf f .states) where
     pub audit-stop-values : length values < n → refused 15 0 (pos 0) ≡ audit f values picks
-    unfolding audit problemAudit
+    unfolding auditWithin problemAuditWith
     audit-stop-values h = rw (passed, ← states-are, lt-leb n (length values) h) refl
 
     pub audit-stop-picks : n ≤ length values → length picks < n → refused 15 1 (pos 0) ≡ audit f values picks
-    unfolding audit problemAudit
+    unfolding auditWithin problemAuditWith
     audit-stop-picks v h = rw (passed, ← states-are, le-leb n (length values) v, lt-leb n (length picks) h) refl
 
     pub audit-tables : n ≤ length values → n ≤ length picks → {said : Audited}
         → said ≡ tableQuestions (problemOf f) (byState values) (byState picks) → said ≡ audit f values picks
-    unfolding audit problemAudit
+    unfolding auditWithin problemAuditWith
     audit-tables v h e = e ∙ rw (passed, ← states-are, le-leb n (length values) v, le-leb n (length picks) h) refl
 
     pub tables-asked : {index : List ℕ} → Ready f index → n ≤ length values → n ≤ length picks

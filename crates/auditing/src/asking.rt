@@ -4,7 +4,6 @@ use crate::searches::slack_state;
 use crate::searches::stray_state;
 use crate::searches::unbounded_state;
 use model::AuditAnswer;
-use reading::index::INDEX;
 use reading::settings::give_up_cost;
 use reading::settings::settings_of;
 use reading::value::first_undercut;
@@ -46,7 +45,7 @@ pub fn refused(question: u8, place: usize, excess: i64) -> AuditAnswer
 // Questions 18 and 19 of the states that the picks reach, and the least cost of the picks there.
 fn pick_questions(
     file: &[u8],
-    index: &[u32; INDEX],
+    index: &[u32],
     values: &[u32],
     picks: &[u16],
     n: usize,
@@ -86,7 +85,7 @@ fn pick_questions(
 // Questions 16 to 19.
 pub fn table_questions(
     file: &[u8],
-    index: &[u32; INDEX],
+    index: &[u32],
     values: &[u32],
     picks: &[u16],
     n: usize,

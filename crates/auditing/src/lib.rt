@@ -7,27 +7,23 @@ use crate::asking::table_questions;
 use checking::questions::questions;
 use model::AuditAnswer;
 use model::FileAnswer;
-use reading::index::INDEX;
+use reading::index::has_few_rows;
+use reading::index::large_index;
+use reading::index::small_index;
 use reading::layout::layout_of;
 ghost use mathlib.Core.Path.{_≡_};
-ghost use lib.ListN.{length};
 ghost use Rattle.model.specs.Answers.{auditedOf, auditCarries, auditedCarries};
 ghost use Rattle.model.specs.Audit.{audit as model-audit};
 ghost use Rattle.model.specs.Carried.{Said};
 ghost use Rattle.model.specs.Sections.{problemOf};
 ghost use Rattle.model.specs.Value.{byState};
 ghost use Rattle.model.specs.Promises.{Close, ExcessFits};
-ghost use Rattle.reading.specs.Tests.{indexSize};
+ghost use Rattle.reading.specs.Room.{IndexRoom};
 ghost use Rattle.auditing.specs.TablesAsked.{FileAudited};
 
 // The questions in order, to any bytes and any two tables. The index is that of the file where they all say yes.
-pub fn audit_file(
-    file: &[u8],
-    values: &[u32],
-    picks: &[u16],
-    index: &mut [u32; INDEX],
-) -> AuditAnswer
-    requires { ⌜ length (now index) ≡ indexSize ⌝ }
+pub fn audit_file(file: &[u8], values: &[u32], picks: &[u16], index: &mut [u32]) -> AuditAnswer
+    requires { ⌜ IndexRoom (now file) (now index) ⌝ }
     ensures { λ r.
         ⌜ FileAudited
         (now (file .entry)) (now (values .entry)) (now (picks .entry)) (now (index .entry)) (now (index .exit))
@@ -66,6 +62,10 @@ pub fn audit(file: &[u8], values: &[u32], picks: &[u16]) -> AuditAnswer
         ⌜ (auditCarries r .said ≡ Said.refused
         → ExcessFits (problemOf (now (file .entry)) .tolerance) (auditCarries r .question) (auditCarries r .excess)) ⌝ }
 {
-    let mut index = [0u32; INDEX];
+    if has_few_rows(file) {
+        let mut index = small_index();
+        return audit_file(file, values, picks, &mut index);
+    }
+    let mut index = large_index();
     audit_file(file, values, picks, &mut index)
 }

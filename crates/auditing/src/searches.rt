@@ -1,12 +1,11 @@
 // Questions 16, 18 and 19 of each state in order, and the value of a pick.
 use model::GIVE_UP;
-use reading::index::INDEX;
 use reading::index::is_own;
 use reading::states::is_goal;
 use reading::value::row_value;
 use walking::walk::MARKS;
 ghost use mathlib.Core.Path.{_≡_};
-ghost use Prim.Native.Nat.{_≤_, _<_};
+ghost use Prim.Native.Nat.{_+_, _≤_, _<_};
 ghost use mathlib.Core.Logic.{_⊎_};
 ghost use lib.Dec.{eqb};
 ghost use lib.ListN.{length};
@@ -62,8 +61,8 @@ fn is_open(file: &[u8], marks: &[u8; MARKS], s: usize) -> bool
 }
 
 // Whether a pick gives up or is a row of state s.
-fn own_or_given(index: &[u32; INDEX], pick: u16, s: usize) -> bool
-    requires { ⌜ s < maxStates ⌝ }
+fn own_or_given(index: &[u32], pick: u16, s: usize) -> bool
+    requires { ⌜ s + 1 < length (now index) ⌝ }
     ensures { λ r. ⌜ r ≡ fitting (now (index .entry)) pick s ⌝ }
 {
     if pick == GIVE_UP {
@@ -73,13 +72,7 @@ fn own_or_given(index: &[u32; INDEX], pick: u16, s: usize) -> bool
 }
 
 // Whether the pick at s gives up or is a row of s, where s is reached and no goal.
-fn pick_fits(
-    file: &[u8],
-    index: &[u32; INDEX],
-    picks: &[u16],
-    marks: &[u8; MARKS],
-    s: usize,
-) -> bool
+fn pick_fits(file: &[u8], index: &[u32], picks: &[u16], marks: &[u8; MARKS], s: usize) -> bool
     requires { ⌜ Walkable (now file) (now index) × (s < problemOf (now file) .states) × (s < length (now picks)) ⌝ }
     ensures { λ r. ⌜ r ≡ fitsAt (problemOf (now (file .entry))) (byState (now (picks .entry))) (now (marks .entry)) s ⌝ }
 {
@@ -92,7 +85,7 @@ fn pick_fits(
 // Question 18: the first state of n that is reached and no goal and whose pick is neither its row nor giving up, or n.
 pub fn stray_state(
     file: &[u8],
-    index: &[u32; INDEX],
+    index: &[u32],
     picks: &[u16],
     marks: &[u8; MARKS],
     n: usize,
@@ -111,7 +104,7 @@ pub fn stray_state(
 }
 
 // The value of a pick: the limit where it gives up, else its row value.
-pub fn pick_value(file: &[u8], index: &[u32; INDEX], values: &[u32], pick: u16, limit: u32) -> u64
+pub fn pick_value(file: &[u8], index: &[u32], values: &[u32], pick: u16, limit: u32) -> u64
     requires { ⌜ Ready (now file) (now index) × (problemOf (now file) .states ≤ length (now values))
         × (limit ≡ giveUpCost (problemOf (now file))) × ((pick ≡ giveUp) ⊎ (pick < problemOf (now file) .rows)) ⌝ }
     ensures { λ r. ⌜ r ≡ pickValueOn (eqb pick giveUp) (problemOf (now (file .entry))) (byState (now (values .entry))) pick ⌝ }
@@ -126,7 +119,7 @@ pub fn pick_value(file: &[u8], index: &[u32; INDEX], values: &[u32], pick: u16, 
 // Whether the value of the pick at s is at most V + e - 1, where s is reached and no goal.
 fn close(
     file: &[u8],
-    index: &[u32; INDEX],
+    index: &[u32],
     values: &[u32],
     picks: &[u16],
     marks: &[u8; MARKS],
@@ -150,7 +143,7 @@ fn close(
 // Question 19: the first state of n that is reached and no goal and whose pick's value is above V + e - 1, or n.
 pub fn slack_state(
     file: &[u8],
-    index: &[u32; INDEX],
+    index: &[u32],
     values: &[u32],
     picks: &[u16],
     marks: &[u8; MARKS],

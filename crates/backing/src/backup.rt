@@ -5,7 +5,6 @@ use crate::scan::Found;
 use crate::scan::scan;
 use crate::scan::undo;
 use model::GIVE_UP;
-use reading::index::INDEX;
 ghost use mathlib.Core.Path.{_≡_};
 ghost use mathlib.Core.Bool.{false, _||_, not};
 ghost use mathlib.Core.List.{List, []};
@@ -58,7 +57,7 @@ fn moves(before: bool, rose: bool, pick: u16, prev: u16) -> bool
 // Backs up state s; giving up costs `give`.
 fn backup(
     file: &[u8],
-    index: &[u32; INDEX],
+    index: &[u32],
     values: &mut [u32],
     picks: &mut [u16],
     remembered: &mut [u32],
@@ -114,7 +113,7 @@ fn backup(
 // Backs up the first n states of the walk list in list order.
 pub fn backups(
     file: &[u8],
-    index: &[u32; INDEX],
+    index: &[u32],
     values: &mut [u32],
     picks: &mut [u16],
     remembered: &mut [u32],

@@ -2,7 +2,6 @@
 // A row whose remembered value does not beat what is best so far would not be picked, so that it is not evaluated.
 use crate::LOG;
 use model::VALUE_BOUND;
-use reading::index::INDEX;
 use reading::value::row_value;
 ghost use mathlib.Core.Path.{_≡_};
 ghost use mathlib.Core.Bool.{true, _&&_};
@@ -88,7 +87,7 @@ fn evaluated(q: u32, r: usize, a: Found) -> Found
 // Row r is skipped unless what it remembers beats what is best so far; otherwise it is evaluated, and its value remembered.
 fn consider(
     file: &[u8],
-    index: &[u32; INDEX],
+    index: &[u32],
     values: &[u32],
     remembered: &mut [u32],
     log: &mut [u32; LOG],
@@ -121,7 +120,7 @@ fn consider(
 // The row picked before, where it is one of the rows from `first` to `end`.
 fn picked(
     file: &[u8],
-    index: &[u32; INDEX],
+    index: &[u32],
     values: &[u32],
     remembered: &mut [u32],
     log: &mut [u32; LOG],
@@ -151,7 +150,7 @@ fn picked(
 // The rows from `first` to `end` in order, but for the one picked before.
 fn others(
     file: &[u8],
-    index: &[u32; INDEX],
+    index: &[u32],
     values: &[u32],
     remembered: &mut [u32],
     log: &mut [u32; LOG],
@@ -188,7 +187,7 @@ fn others(
 // The scan of state s, whose pick before is `prev`.
 pub fn scan(
     file: &[u8],
-    index: &[u32; INDEX],
+    index: &[u32],
     values: &[u32],
     remembered: &mut [u32],
     log: &mut [u32; LOG],

@@ -6,15 +6,15 @@ use native.Mathlib.Omega.{arith}
 use mathlib.Core.Bool.{Bool, true, false, not}
 use mathlib.Core.List.{List}
 use lib.Dec.{leb, eqb}
-use lib.ListN.{length, getD, replicate, length-replicate}
+use lib.ListN.{length, getD}
 use borrow.Author.Tests.{lt-leb, le-leb, eq-eqb, ne-eqb, ltb-true}
 use Rattle.model.specs.Bytes.{u32At}
-use Rattle.model.specs.Limits.{maxStates, maxPenalty, weightTotals}
+use Rattle.model.specs.Limits.{maxPenalty, weightTotals}
 use Rattle.model.specs.Problem.{endRow, giveUpCost}
 use Rattle.model.specs.Questions.{Verdict, passes, fails, _then_, ask, askEach, stateObeys, rowSound}
 use Rattle.model.specs.Questions.{layoutQuestions, settingQuestions, stateQuestion, startQuestion}
 use Rattle.model.specs.Questions.{rowNumberQuestion, rowQuestion, outcomeNumberQuestion, outcomeQuestion, estimateQuestion}
-use Rattle.model.specs.Questions.{itemQuestions, fileQuestions, undercutState}
+use Rattle.model.specs.Questions.{itemQuestions, fileQuestions, fileQuestionsWithin, undercutState}
 use Rattle.model.specs.Rounds.{fillTo}
 use Rattle.model.specs.Search.{first, sumTo, oneOf}
 use Rattle.model.specs.Sections.{problemOf, outcomeAt, goalByteOf}
@@ -33,7 +33,7 @@ use Rattle.reading.specs.Fields.{estimates-are, row-counts-are, first-rows-are,
 use Rattle.reading.specs.Laid.{SettingsOf}
 use Rattle.reading.specs.Ready.{Undercuts}
 use Rattle.reading.specs.Bounds.{byteBound}
-use Rattle.reading.specs.Tests.{rowTest, rowCountAt, outcomeCountAt, ticksAt, allEntries, RowsIndexed, indexSize}
+use Rattle.reading.specs.Tests.{rowTest, rowCountAt, outcomeCountAt, ticksAt, allEntries, RowsIndexed, indexFor}
 use Rattle.reading.specs.Tests.{outcomesIn, partOf}
 use Rattle.checking.specs.ItemTests.{SettingAnswer, settingQuestion, stateTest}
 use Rattle.checking.proofs.Indexing.{index-holds, same-search, index-ready}
@@ -147,14 +147,14 @@ module _ {f : List ℕ} {l : Layout} (asked : RowsAsked f l) where
           }
 
       pub rows-pass
-          : ((i : ℕ) → getD f i 0 < byteBound) → length before ≡ indexSize → outcomeNumberQuestion f (problemOf f) ≡ passes
+          : ((i : ℕ) → getD f i 0 < byteBound) → indexFor (l .rows) ≤ length before → outcomeNumberQuestion f (problemOf f) ≡ passes
           → RowsAnswered f before after passes
       rows-pass bytes size ninth =
           let made = rows-left rows in
           record {
             verdict = rw (seventh, eighth, ninth);
             left = rw (seventh, eighth) made;
-            indexed = λ t. rw made (index-holds f before (asked .whole) bytes size seventh ninth);
+            indexed = λ t. rw made (index-holds f before (asked .whole) bytes (rw (← (asked .laid .rows-are)) size) seventh ninth);
           }
 
 -- questions 10 and 11
@@ -175,14 +175,13 @@ module _ {f index : List ℕ} {l : Layout} (asked : ValuesAsked f index l) where
     pub ten-yes : {r : ℕ} → r ≡ badPart → l .rows ≤ r → outcomeQuestion (problemOf f) ≡ passes
     ten-yes e h = rw (ten, ← e, le-leb _ _ h)
 
-  module _ (passed : outcomeQuestion (problemOf f) ≡ passes) {values : List ℕ}
-      (filled : values ≡ fillTo (problemOf f .estimate) (replicate maxStates 0) (l .states)) {s r : ℕ}
+  module _ (passed : outcomeQuestion (problemOf f) ≡ passes) (lent : List ℕ) {values : List ℕ} (long : l .states ≤ length lent)
+      (filled : values ≡ fillTo (problemOf f .estimate) lent (l .states)) {s r : ℕ}
       (found : Undercuts f (byState values) s r) where
     agree : (j : ℕ) → j < problemOf f .states → byState values j ≡ problemOf f .estimate j
     agree j h =
-        let long : l .states ≤ length {A = ℕ} (replicate maxStates 0) = rw length-replicate (asked .laid .states-high) in
         let below : j < l .states = rw (asked .laid .states-are) h in
-        rw filled (fill-entry (problemOf f .estimate) (replicate maxStates 0) (l .states) j long below)
+        rw filled (fill-entry (problemOf f .estimate) lent (l .states) j long below)
 
     within : (j : ℕ) → j < problemOf f .states → endRow (problemOf f) j ≤ problemOf f .rows
     within = asked .indexed .within .rows-within
@@ -336,7 +335,7 @@ module _ {f before after : List ℕ} (fourth : settingQuestions (problemOf f) �
 
 pub file-stops
     : {f index : List ℕ} {said : Verdict} → (said ≡ passes → ⊥) → said ≡ layoutQuestions f → FileAnswered f index index said
-unfolding fileQuestions
+unfolding fileQuestionsWithin
 file-stops {f = f} {index = index} {said = said} stop e =
     record {
       verdict = refuses (layoutQuestions f) _ e;
@@ -355,10 +354,10 @@ file-stops {f = f} {index = index} {said = said} stop e =
 pub file-items
     : {f before after : List ℕ} {said : Verdict} → passes ≡ layoutQuestions f → ItemsAnswered f before after said
     → FileAnswered f before after said
-unfolding fileQuestions
+unfolding fileQuestionsWithin
 file-items e a = record { verdict = rw (← e) (a .verdict); left = rw (← e) (a .left); ready = a .ready }
 
 -- a file that passes has whole sections
 pub whole-file : (f : List ℕ) → fileQuestions f ≡ passes → layoutQuestions f ≡ passes
-unfolding fileQuestions
+unfolding fileQuestionsWithin
 whole-file f h = then-first (layoutQuestions f) _ h

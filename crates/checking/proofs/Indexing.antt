@@ -24,7 +24,7 @@ use Rattle.checking.specs.IndexLeft.{statesFilled, rowsFilled}
 use Rattle.reading.specs.Fields.{within}
 use Rattle.reading.specs.Ready.{Indexed, Ready}
 use Rattle.reading.specs.Bounds.{byteBound}
-use Rattle.reading.specs.Tests.{rowsBase, indexSize, rowEntries, allEntries}
+use Rattle.reading.specs.Tests.{rowsBase, indexFor, rowEntries, allEntries}
 use Rattle.reading.specs.Tests.{partOf, outcomesIn}
 use Rattle.checking.specs.ItemTests.{PartThere}
 
@@ -107,7 +107,7 @@ module _ (starts costs : ℕ → ℕ) (l : List ℕ) (n : ℕ) where
 
 -- the index once the states and the rows are filled in: what questions 1 to 3, 7 and 9 say, and that the bytes are bytes
 module _ (f before : List ℕ) (whole : layoutQuestions f ≡ passes) (bytes : (i : ℕ) → getD f i 0 < byteBound)
-    (size : length before ≡ indexSize) where
+    (size : indexFor (problemOf f .rows) ≤ length before) where
   pub index-holds
       : rowNumberQuestion (problemOf f) ≡ passes → outcomeNumberQuestion f (problemOf f) ≡ passes
       → Indexed f (rowsFilled f (statesFilled f before))
@@ -118,13 +118,13 @@ module _ (f before : List ℕ) (whole : layoutQuestions f ≡ passes) (bytes : (
       let n = problemOf f .states in
       let m = problemOf f .rows in
       let states = statesFilled f before in
-      let states-size : length states ≡ indexSize = fill-length firsts before (n + 1) ∙ size in
+      let states-size : length states ≡ length before = fill-length firsts before (n + 1) in
       let few = inside .states-high in
-      let long : rowsBase + 2 * m < length states = omega (arith, inside .rows-high) in
+      let long : rowsBase + 2 * m < length states = omega arith in
       record {
         whole = whole;
         within = inside;
-        size = all-length (outcomeAt f) costs states m ∙ states-size;
+        size = omega (arith, all-length (outcomeAt f) costs states m);
         first-row = λ s l.
             all-before (outcomeAt f) costs states m s (omega arith)
             ∙ fill-entry firsts before (n + 1) s (omega arith) (omega arith);

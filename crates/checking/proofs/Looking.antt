@@ -5,8 +5,8 @@ use native.Mathlib.Omega.{arith}
 use mathlib.Core.List.{List, []}
 use lib.ListN.{length, getD, take, drop}
 use borrow.Author.Tests.{lt-ltb, le-ltb}
-use Rattle.model.specs.Limits.{maxStates, maxRows}
-use Rattle.model.specs.Lookup.{rowsOf, rowsOn, stretch}
+use Rattle.model.specs.Limits.{maxRows}
+use Rattle.model.specs.Lookup.{rowsOf, rowsWithin, rowsOn, stretch}
 use Rattle.model.specs.Questions.{passes, fails, fileQuestions}
 use Rattle.model.specs.Sections.{problemOf}
 use Rattle.reading.specs.declared.layout.Layout.{Layout}
@@ -16,16 +16,16 @@ use Rattle.reading.specs.RowParts.{rows-begin, rows-end}
 
 -- a file that is refused has no stretch, and a number that is no state has none
 pub refused-rows : (f : List ℕ) (s q i : ℕ) → fileQuestions f ≡ fails q i → [] ≡ rowsOf f s
-unfolding rowsOf rowsOn
+unfolding rowsWithin rowsOn
 refused-rows f s q i e = rw e
 
 pub no-state-rows : (f : List ℕ) (s : ℕ) → fileQuestions f ≡ passes → problemOf f .states ≤ s → [] ≡ rowsOf f s
-unfolding rowsOf rowsOn
+unfolding rowsWithin rowsOn
 no-state-rows f s e h = rw (e, le-ltb _ _ h)
 
 -- the ends of a state's rows
 pub record StretchEnds (f index : List ℕ) (at2 s : ℕ) : Type 0 where
-  pub state-low : s < maxStates
+  pub state-there : s + 1 < length index
   pub ordered : getD index s 0 ≤ getD index (s + 1) 0
   pub low : getD index s 0 ≤ maxRows
   pub high : getD index (s + 1) 0 ≤ maxRows
@@ -43,7 +43,7 @@ module _ {f index : List ℕ} {l : Layout} (laid : LaidOut f l) (h : Ready f ind
       let o : getD index s 0 ≤ getD index (s + 1) 0 = omega arith in
       let t : getD index (s + 1) 0 ≤ l .rows = omega (arith, laid .rows-are) in
       record {
-        state-low = omega (arith, laid .states-high);
+        state-there = omega (arith, laid .states-are, laid .states-high, h .indexed .size);
         ordered = o;
         low = omega (arith, laid .rows-high);
         high = omega (arith, laid .rows-high);
@@ -58,7 +58,7 @@ module _ {f index : List ℕ} {l : Layout} (laid : LaidOut f l) (h : Ready f ind
   rowsTo = l .at2 + 4 * getD index (s + 1) 0
 
   pub stretch-is : fileQuestions f ≡ passes → take (rowsTo - rowsFrom) (drop rowsFrom f) ≡ rowsOf f s
-  unfolding rowsOf rowsOn stretch
+  unfolding rowsWithin rowsOn stretch
   stretch-is e =
       let a = rows-begin f index h s below in
       let b = rows-end f index h s below in

@@ -7,7 +7,6 @@ use model::MIN_RATE;
 use model::TEN_THOUSANDTHS;
 use model::THOUSANDTHS;
 use model::TWELVE_BITS;
-use reading::index::INDEX;
 use reading::index::ROWS;
 use reading::numbers::byte_at;
 use reading::numbers::u16_at;
@@ -17,11 +16,11 @@ ghost use mathlib.Core.Path.{_≡_};
 ghost use mathlib.Core.Bool.{not};
 ghost use Prim.Native.Nat.{ℕ, _+_, _*_, _≤_, _<_};
 ghost use lib.ListN.{length};
-ghost use Rattle.model.specs.Limits.{maxRows, weightTotals};
+ghost use Rattle.model.specs.Limits.{weightTotals};
 ghost use Rattle.model.specs.Questions.{between, rowSound};
 ghost use Rattle.model.specs.Search.{first, oneOf};
 ghost use Rattle.checking.specs.ItemTests.{SettingAnswer, settingQuestion, stateObeysAt, rowObeysAt, stateTest, PartThere};
-ghost use Rattle.reading.specs.Tests.{rowTest, partOf, outcomesIn};
+ghost use Rattle.reading.specs.Tests.{rowTest, partOf, outcomesIn, indexFor};
 ghost use Rattle.reading.specs.Bounds.{maxByte};
 
 // Whether a setting is not 1 to `high`.
@@ -184,8 +183,8 @@ pub fn outcomes_obey(part: &[u8], states: usize, total: u32) -> bool
 }
 
 // Question 10: the first row whose outcomes do not obey section 3, or n.
-pub fn bad_outcomes(file: &[u8], n: usize, states: usize, total: u32, index: &[u32; INDEX]) -> usize
-    requires { ⌜ (n ≤ maxRows) × ((r : ℕ) → r < n → PartThere (now file) (now index) r) ⌝ }
+pub fn bad_outcomes(file: &[u8], n: usize, states: usize, total: u32, index: &[u32]) -> usize
+    requires { ⌜ (indexFor n ≤ length (now index)) × ((r : ℕ) → r < n → PartThere (now file) (now index) r) ⌝ }
     ensures { λ r.
         ⌜ r ≡ first (λ k. rowSound states total (outcomesIn (partOf (now (file .entry)) (now (index .entry)) k))) 0 n ⌝ }
 {

@@ -7,9 +7,11 @@ use crate::items::setting_question;
 use crate::sections::sections;
 use model::FileAnswer;
 use model::MAX_STATES;
-use reading::index::INDEX;
+use reading::index::has_few_rows;
 use reading::index::index_rows;
 use reading::index::index_states;
+use reading::index::large_index;
+use reading::index::small_index;
 use reading::layout::Layout;
 use reading::layout::layout_of;
 use reading::settings::give_up_cost;
@@ -19,15 +21,17 @@ use reading::states::estimates;
 use reading::states::is_goal;
 use reading::value::first_undercut;
 ghost use mathlib.Core.Path.{_≡_};
-ghost use Prim.Native.Nat.{_<_};
+ghost use Prim.Native.Nat.{_≤_, _<_};
 ghost use lib.ListN.{length};
 ghost use Rattle.model.specs.Answers.{verdictOf, fileCarries, verdictCarries};
 ghost use Rattle.model.specs.Limits.{valueBound};
 ghost use Rattle.model.specs.Lookup.{rowsOf};
-ghost use Rattle.model.specs.Questions.{fails, fileQuestions};
+ghost use Rattle.model.specs.Questions.{passes, fails, outcomeQuestion, fileQuestions};
+ghost use Rattle.model.specs.Sections.{problemOf};
 ghost use Rattle.checking.specs.Stretches.{RowsAsked, RowsAnswered, ValuesAsked, ValuesAnswered};
 ghost use Rattle.checking.specs.Stretches.{ItemsAnswered, FileAnswered};
-ghost use Rattle.reading.specs.Tests.{indexSize};
+ghost use Rattle.reading.specs.Room.{IndexRoom};
+ghost use Rattle.reading.specs.Tests.{indexFor};
 
 // A refusal with its place.
 fn refused(question: u8, place: usize) -> FileAnswer
@@ -41,8 +45,8 @@ fn refused(question: u8, place: usize) -> FileAnswer
 }
 
 // Questions 7 to 9, and the index.
-fn row_questions(file: &[u8], l: Layout, index: &mut [u32; INDEX]) -> FileAnswer
-    requires { ⌜ RowsAsked (now file) l × (length (now index) ≡ indexSize) ⌝ }
+fn row_questions(file: &[u8], l: Layout, index: &mut [u32]) -> FileAnswer
+    requires { ⌜ RowsAsked (now file) l × (indexFor (l .rows) ≤ length (now index)) ⌝ }
     ensures { λ r. ⌜ RowsAnswered (now (file .entry)) (now (index .entry)) (now (index .exit)) (verdictOf r) ⌝ }
 {
     let states = l.states;
@@ -61,8 +65,26 @@ fn row_questions(file: &[u8], l: Layout, index: &mut [u32; INDEX]) -> FileAnswer
     FileAnswer::Passed
 }
 
+// A file of at most so many states does not pay for clearing a table of the most that there can be.
+const SMALL_STATES: usize = 256;
+
+// Question 11, with a lent table for the estimates.
+fn estimate_question(file: &[u8], l: Layout, index: &[u32], values: &mut [u32]) -> FileAnswer
+    requires { ⌜ ValuesAsked (now file) (now index) l × (outcomeQuestion (problemOf (now file)) ≡ passes)
+        × (l .states ≤ length (now values)) ⌝ }
+    ensures { λ r. ⌜ ValuesAnswered (now (file .entry)) (now (index .entry)) (verdictOf r) ⌝ }
+{
+    let states = l.states;
+    estimates(file, states, values);
+    let u = first_undercut(file, index, values, states);
+    if u.state < states {
+        return refused(11, u.row);
+    }
+    FileAnswer::Passed
+}
+
 // Questions 10 and 11.
-fn value_questions(file: &[u8], l: Layout, index: &[u32; INDEX]) -> FileAnswer
+fn value_questions(file: &[u8], l: Layout, index: &[u32]) -> FileAnswer
     requires { ⌜ ValuesAsked (now file) (now index) l ⌝ }
     ensures { λ r. ⌜ ValuesAnswered (now (file .entry)) (now (index .entry)) (verdictOf r) ⌝ }
 {
@@ -72,18 +94,17 @@ fn value_questions(file: &[u8], l: Layout, index: &[u32; INDEX]) -> FileAnswer
     if r < rows {
         return refused(10, r);
     }
-    let mut values = [0u32; MAX_STATES];
-    estimates(file, states, &mut values);
-    let u = first_undercut(file, index, &values, states);
-    if u.state < states {
-        return refused(11, u.row);
+    if states <= SMALL_STATES {
+        let mut values = [0u32; SMALL_STATES];
+        return estimate_question(file, l, index, &mut values);
     }
-    FileAnswer::Passed
+    let mut values = [0u32; MAX_STATES];
+    estimate_question(file, l, index, &mut values)
 }
 
 // Questions 4 to 11 of a file whose sections are whole.
-fn item_questions(file: &[u8], l: Layout, index: &mut [u32; INDEX]) -> FileAnswer
-    requires { ⌜ RowsAsked (now file) l × (length (now index) ≡ indexSize) ⌝ }
+fn item_questions(file: &[u8], l: Layout, index: &mut [u32]) -> FileAnswer
+    requires { ⌜ RowsAsked (now file) l × (indexFor (l .rows) ≤ length (now index)) ⌝ }
     ensures { λ r. ⌜ ItemsAnswered (now (file .entry)) (now (index .entry)) (now (index .exit)) (verdictOf r) ⌝ }
 {
     let set = settings_of(file);
@@ -108,8 +129,8 @@ fn item_questions(file: &[u8], l: Layout, index: &mut [u32; INDEX]) -> FileAnswe
 }
 
 // Questions 1 to 11 about the file. The index is filled in as far as they come, and whole where they all say yes.
-pub fn questions(file: &[u8], index: &mut [u32; INDEX]) -> FileAnswer
-    requires { ⌜ length (now index) ≡ indexSize ⌝ }
+pub fn questions(file: &[u8], index: &mut [u32]) -> FileAnswer
+    requires { ⌜ IndexRoom (now file) (now index) ⌝ }
     ensures { λ r. ⌜ FileAnswered (now (file .entry)) (now (index .entry)) (now (index .exit)) (verdictOf r) ⌝ }
 {
     let whole = sections(file);
@@ -123,16 +144,21 @@ pub fn questions(file: &[u8], index: &mut [u32; INDEX]) -> FileAnswer
 pub fn check(file: &[u8]) -> FileAnswer
     ensures { λ r. ⌜ fileCarries r ≡ verdictCarries (fileQuestions (now (file .entry))) ⌝ }
 {
-    let mut index = [0u32; INDEX];
+    if has_few_rows(file) {
+        let mut index = small_index();
+        return questions(file, &mut index);
+    }
+    let mut index = large_index();
     questions(file, &mut index)
 }
 
-// The rows of a state, 4 bytes each, as a part of the file; empty where the file is refused or the number is no state.
-pub fn rows_of(file: &[u8], state: usize) -> &[u8]
+// The rows of a state, 4 bytes each, as a part of the file, by a lent index; empty where the file is refused or the number is no
+// state.
+fn rows_by<'a>(file: &'a [u8], state: usize, index: &mut [u32]) -> &'a [u8]
+    requires { ⌜ IndexRoom (now file) (now index) ⌝ }
     ensures { λ r. ⌜ now r ≡ rowsOf (now (file .entry)) state ⌝ }
 {
-    let mut index = [0u32; INDEX];
-    let answer = questions(file, &mut index);
+    let answer = questions(file, index);
     let FileAnswer::Passed = answer else {
         return &file[0..0];
     };
@@ -143,4 +169,16 @@ pub fn rows_of(file: &[u8], state: usize) -> &[u8]
     let from = l.at2 + 4 * (index[state] as usize);
     let to = l.at2 + 4 * (index[state + 1] as usize);
     &file[from..to]
+}
+
+// The rows of a state of any bytes.
+pub fn rows_of(file: &[u8], state: usize) -> &[u8]
+    ensures { λ r. ⌜ now r ≡ rowsOf (now (file .entry)) state ⌝ }
+{
+    if has_few_rows(file) {
+        let mut index = small_index();
+        return rows_by(file, state, &mut index);
+    }
+    let mut index = large_index();
+    rows_by(file, state, &mut index)
 }

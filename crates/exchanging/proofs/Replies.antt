@@ -16,7 +16,7 @@ use Rattle.model.specs.Promises.{Writes}
 use Rattle.model.specs.Questions.{passes, fails, fileQuestions}
 use Rattle.model.specs.Rounds.{fillTo}
 use Rattle.model.specs.Sections.{problemOf}
-use Rattle.model.specs.SetForm.{setForm, exchangeQuestions, exchange}
+use Rattle.model.specs.SetForm.{setForm, exchangeQuestionsWithin, exchange, exchangeWithin}
 use Rattle.model.specs.declared.WriteAnswer.{WriteAnswer}
 use Rattle.guarantee.specs.Tables.{fill-entry}
 use Rattle.reading.specs.Ready.{Ready}
@@ -26,19 +26,19 @@ use Rattle.exchanging.proofs.FormSections.{codes-size, form-few, form-s
 
 module _ (f out : List ℕ) where
   stops-file : {q i : ℕ} → fileQuestions f ≡ fails q i → exchange f out ≡ record { answer = refused q i; left = out }
-  unfolding exchange exchangeQuestions
+  unfolding exchangeWithin exchangeQuestionsWithin
   stops-file e = rw e refl
 
   stops-short
       : fileQuestions f ≡ passes → length out < length (setForm f)
       → exchange f out ≡ record { answer = refused 23 0; left = out }
-  unfolding exchange exchangeQuestions
+  unfolding exchangeWithin exchangeQuestionsWithin
   stops-short e l = rw (e, lt-leb (length (setForm f)) (length out) l) refl
 
   writes-form
       : fileQuestions f ≡ passes → length (setForm f) ≤ length out
       → exchange f out ≡ record { answer = written (length (setForm f)); left = copied (setForm f) out }
-  unfolding exchange exchangeQuestions
+  unfolding exchangeWithin exchangeQuestionsWithin
   writes-form e l = rw (e, le-leb (length (setForm f)) (length out) l) refl
 
 replies

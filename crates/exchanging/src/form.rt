@@ -5,7 +5,6 @@ use model::MAX_ROWS;
 use model::MAX_SETTINGS;
 use model::MIN_SETTINGS;
 use model::THOUSANDTHS;
-use reading::index::INDEX;
 use reading::layout::layout_of;
 use reading::outcomes::seconds_of;
 use reading::settings::settings_of;
@@ -28,13 +27,14 @@ ghost use Rattle.model.specs.Questions.{passes, layoutQuestions};
 ghost use Rattle.model.specs.Rounds.{fillTo};
 ghost use Rattle.model.specs.Sections.{problemOf};
 ghost use Rattle.model.specs.SetForm.{setForm};
+ghost use Rattle.reading.specs.Tests.{rowsBase, indexFor};
 ghost use Rattle.exchanging.specs.FormAsks.{formOf, formCount, rowCodes, Accepted, rowAs, codeAs, formLength, FormAsked};
 
 // Gathers the outcomes of the rows into the table, one row after the other, and fills in how many each has. Answers how many there
 // are in all.
 pub fn gather_rows(
     file: &[u8],
-    index: &[u32; INDEX],
+    index: &[u32],
     rows: usize,
     table: &mut [u32; MAX_OUTCOMES],
     counts: &mut [u8; MAX_ROWS],
@@ -132,14 +132,8 @@ fn put_states(file: &[u8], n: usize, out: &mut [u8], at: usize) -> usize
 }
 
 // Puts row r: kind 0, its number of outcomes, its seconds.
-fn put_row(
-    index: &[u32; INDEX],
-    counts: &[u8; MAX_ROWS],
-    r: usize,
-    out: &mut [u8],
-    at: usize,
-) -> usize
-    requires { ⌜ (r < maxRows) × (at + 4 ≤ length (now out)) ⌝ }
+fn put_row(index: &[u32], counts: &[u8; MAX_ROWS], r: usize, out: &mut [u8], at: usize) -> usize
+    requires { ⌜ (r < maxRows) × (rowsBase + 2 * r + 1 < length (now index)) × (at + 4 ≤ length (now out)) ⌝ }
     ensures { λ to.
         ⌜ Holds
         (now (out .entry)) (now (out .exit)) to
@@ -151,14 +145,8 @@ fn put_row(
 }
 
 // Puts the n rows, after their count.
-fn put_rows(
-    index: &[u32; INDEX],
-    counts: &[u8; MAX_ROWS],
-    n: usize,
-    out: &mut [u8],
-    at: usize,
-) -> usize
-    requires { ⌜ (n ≤ maxRows) × (at + 2 + 4 * n ≤ length (now out)) ⌝ }
+fn put_rows(index: &[u32], counts: &[u8; MAX_ROWS], n: usize, out: &mut [u8], at: usize) -> usize
+    requires { ⌜ (n ≤ maxRows) × (indexFor n ≤ length (now index)) × (at + 2 + 4 * n ≤ length (now out)) ⌝ }
     ensures { λ r.
         ⌜ Holds
         (now (out .entry)) (now (out .exit)) r
@@ -193,7 +181,7 @@ fn put_outcomes(table: &[u32; MAX_OUTCOMES], n: usize, out: &mut [u8], at: usize
 // Puts the whole form at the front.
 pub fn put_form(
     file: &[u8],
-    index: &[u32; INDEX],
+    index: &[u32],
     counts: &[u8; MAX_ROWS],
     table: &[u32; MAX_OUTCOMES],
     outcomes: usize,

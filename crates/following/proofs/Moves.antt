@@ -11,7 +11,7 @@ use borrow.Author.Tests.{le-ltb, lt-ltb, eq-eqb, ne-eqb}
 use Rattle.model.specs.Carried.{following}
 use Rattle.model.specs.Audit.{accepted, refused as audit-refused, audit}
 use Rattle.model.specs.Following.{leadsTo, moveSeconds, atEnd, inShift, hasOutcome, mayOccur, reportQuestions, refused}
-use Rattle.model.specs.Following.{Report, follow, atStart, opening, moved, report}
+use Rattle.model.specs.Following.{Report, follow, atStart, opening, openingWithin, moved, report, reportWithin}
 use Rattle.model.specs.Limits.{giveUp, maxMoves, maxSpent}
 use Rattle.model.specs.Problem.{ownRow}
 use Rattle.model.specs.Promises.{Answered}
@@ -162,19 +162,19 @@ module _ (f values picks : List ℕ) (w : Follower) {answer : FollowAnswer} {lef
   module _ {q i : ℕ} {z z′ : ℤ} (a : audit f values picks ≡ audit-refused q i z) (e : z′ ≡ z)
       (said : Answered answer left (record { answer = refused q i z′; left = w })) where
     pub opening-refused : Answered answer left (opening f values picks w)
-    unfolding opening
+    unfolding openingWithin
     opening-refused = rw (a, ← e) said
 
     pub report-refused : (o : ℕ) → Answered answer left (report f values picks w o)
-    unfolding report
+    unfolding reportWithin
     report-refused o = rw (a, ← e) said
 
   pub report-goes-on : {C : ℕ} → audit f values picks ≡ accepted C → (o : ℕ) → ((C : ℕ) → Answered answer left (reported f picks w o C))
       → Answered answer left (report f values picks w o)
-  unfolding report
+  unfolding reportWithin
   report-goes-on {C} a o said = rw a (said C)
 
 pub opening-done : (f values picks : List ℕ) (w : Follower) {C : ℕ} → audit f values picks ≡ accepted C
     → {left : Follower} → left ≡ atStart (problemOf f) → Answered FollowAnswer.Done left (opening f values picks w)
-unfolding opening
+unfolding openingWithin
 opening-done f values picks w a h = rw a (record { answer-is = ap following h; left-is = h })

@@ -8,10 +8,13 @@ use auditing::audit_file;
 use model::AuditAnswer;
 use model::FollowAnswer;
 use model::Follower;
-use reading::index::INDEX;
+use reading::index::has_few_rows;
+use reading::index::large_index;
+use reading::index::small_index;
 use reading::settings::start_of;
 ghost use Rattle.model.specs.Following.{opening, report};
 ghost use Rattle.model.specs.Promises.{Answered};
+ghost use Rattle.reading.specs.Room.{IndexRoom};
 
 // The record after an opening or a report, and the answer.
 pub struct Stepped {
@@ -19,15 +22,14 @@ pub struct Stepped {
     pub answer: FollowAnswer,
 }
 
-// Opens a follower at the start of a file, on the plan of two tables, where the audit accepts them. A refusal hands the record
-// back as it was.
-pub fn open_at_start(w: Follower, file: &[u8], values: &[u32], picks: &[u16]) -> Stepped
+// Opens a follower at the start of a file, with a lent index.
+fn open_by(w: Follower, file: &[u8], values: &[u32], picks: &[u16], index: &mut [u32]) -> Stepped
+    requires { ⌜ IndexRoom (now file) (now index) ⌝ }
     ensures { λ r.
         ⌜ Answered
         (r .answer) (r .follower) (opening (now (file .entry)) (now (values .entry)) (now (picks .entry)) w) ⌝ }
 {
-    let mut index = [0u32; INDEX];
-    let audited = audit_file(file, values, picks, &mut index);
+    let audited = audit_file(file, values, picks, index);
     if let AuditAnswer::Refused {
         question,
         place,
@@ -46,15 +48,37 @@ pub fn open_at_start(w: Follower, file: &[u8], values: &[u32], picks: &[u16]) ->
     }
 }
 
-// One report: outcome `outcome` of the pick at the record's state occurred. A refusal hands the record back as it was.
-pub fn step(w: Follower, file: &[u8], values: &[u32], picks: &[u16], outcome: u64) -> Stepped
+// Opens a follower at the start of a file, on the plan of two tables, where the audit accepts them. A refusal hands the record
+// back as it was.
+pub fn open_at_start(w: Follower, file: &[u8], values: &[u32], picks: &[u16]) -> Stepped
+    ensures { λ r.
+        ⌜ Answered
+        (r .answer) (r .follower) (opening (now (file .entry)) (now (values .entry)) (now (picks .entry)) w) ⌝ }
+{
+    if has_few_rows(file) {
+        let mut index = small_index();
+        return open_by(w, file, values, picks, &mut index);
+    }
+    let mut index = large_index();
+    open_by(w, file, values, picks, &mut index)
+}
+
+// One report, with a lent index.
+fn step_by(
+    w: Follower,
+    file: &[u8],
+    values: &[u32],
+    picks: &[u16],
+    outcome: u64,
+    index: &mut [u32],
+) -> Stepped
+    requires { ⌜ IndexRoom (now file) (now index) ⌝ }
     ensures { λ r.
         ⌜ Answered
         (r .answer) (r .follower)
         (report (now (file .entry)) (now (values .entry)) (now (picks .entry)) w outcome) ⌝ }
 {
-    let mut index = [0u32; INDEX];
-    let audited = audit_file(file, values, picks, &mut index);
+    let audited = audit_file(file, values, picks, index);
     if let AuditAnswer::Refused {
         question,
         place,
@@ -62,5 +86,20 @@ pub fn step(w: Follower, file: &[u8], values: &[u32], picks: &[u16], outcome: u6
     } = audited {
         return turned_down(w, question, place, excess);
     }
-    report_on(w, file, &index, picks, outcome)
+    report_on(w, file, index, picks, outcome)
+}
+
+// One report: outcome `outcome` of the pick at the record's state occurred. A refusal hands the record back as it was.
+pub fn step(w: Follower, file: &[u8], values: &[u32], picks: &[u16], outcome: u64) -> Stepped
+    ensures { λ r.
+        ⌜ Answered
+        (r .answer) (r .follower)
+        (report (now (file .entry)) (now (values .entry)) (now (picks .entry)) w outcome) ⌝ }
+{
+    if has_few_rows(file) {
+        let mut index = small_index();
+        return step_by(w, file, values, picks, outcome, &mut index);
+    }
+    let mut index = large_index();
+    step_by(w, file, values, picks, outcome, &mut index)
 }

@@ -5,7 +5,6 @@ use model::Follower;
 use model::GIVE_UP;
 use model::MAX_MOVES;
 use model::MAX_SPENT;
-use reading::index::INDEX;
 use reading::index::is_own;
 use reading::layout::layout_of;
 use reading::outcomes::outcome_count;
@@ -53,14 +52,7 @@ fn is_in_shift(w: Follower) -> bool
 }
 
 // Question 22 says yes: s is one of the file's n states, its pick is its own, and the pick has such an outcome.
-fn may_occur(
-    file: &[u8],
-    index: &[u32; INDEX],
-    picks: &[u16],
-    n: usize,
-    s: usize,
-    outcome: u64,
-) -> bool
+fn may_occur(file: &[u8], index: &[u32], picks: &[u16], n: usize, s: usize, outcome: u64) -> bool
     requires { ⌜ Followable (now file) (now index) (now picks) × (n ≡ problemOf (now file) .states) ⌝ }
     ensures { λ r. ⌜ r ≡ mayOccur (problemOf (now (file .entry))) (byState (now (picks .entry))) s outcome ⌝ }
 {
@@ -106,7 +98,7 @@ fn went(w: Follower, state: u64, seconds: u32) -> Follower
 }
 
 // Where an outcome of row r leads.
-fn led(file: &[u8], index: &[u32; INDEX], r: usize, outcome: u64) -> u64
+fn led(file: &[u8], index: &[u32], r: usize, outcome: u64) -> u64
     requires { ⌜ Ready (now file) (now index) × (r < problemOf (now file) .rows)
         × (outcome < length (problemOf (now file) .outcomes r)) ⌝ }
     ensures { λ t. ⌜ ((s : ℕ) → t ≡ getD (successors (problemOf (now (file .entry))) r) outcome s) ⌝ }
@@ -115,7 +107,7 @@ fn led(file: &[u8], index: &[u32; INDEX], r: usize, outcome: u64) -> u64
 }
 
 // The record after a move.
-fn moved(file: &[u8], index: &[u32; INDEX], picks: &[u16], w: Follower, outcome: u64) -> Follower
+fn moved(file: &[u8], index: &[u32], picks: &[u16], w: Follower, outcome: u64) -> Follower
     requires { ⌜ Occurring (now file) (now index) (now picks) w outcome ⌝ }
     ensures { λ r. ⌜ r ≡ model-moved (problemOf (now (file .entry))) (byState (now (picks .entry))) w outcome ⌝ }
 {
@@ -152,13 +144,7 @@ fn refused(w: Follower, question: u8) -> Stepped
 }
 
 // Questions 20 to 22 in order, and the move.
-pub fn report_on(
-    w: Follower,
-    file: &[u8],
-    index: &[u32; INDEX],
-    picks: &[u16],
-    outcome: u64,
-) -> Stepped
+pub fn report_on(w: Follower, file: &[u8], index: &[u32], picks: &[u16], outcome: u64) -> Stepped
     requires { ⌜ Followable (now file) (now index) (now picks) ⌝ }
     ensures { λ r.
         ⌜ ((C : ℕ) → Answered (r .answer) (r .follower)

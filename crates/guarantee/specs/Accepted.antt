@@ -18,7 +18,7 @@ use Rattle.model.specs.Questions.{Verdict, passes, fails, fileQuestions, underc
 use Rattle.model.specs.Walk.{walk, leastCost}
 use Rattle.model.specs.Audit.{Audited, accepted, refused, orElse, pickValue, boundedOn, unboundedState, open-state, strayState}
 use Rattle.model.specs.Audit.{slackState}
-use Rattle.model.specs.Audit.{tableQuestions, problemAudit, auditOn, audit}
+use Rattle.model.specs.Audit.{tableQuestions, tableQuestionsWith, problemAudit, problemAuditWith, auditOn, audit, auditWithin}
 use Rattle.guarantee.specs.WellFormed.{WellFormed, well-formed}
 use Rattle.guarantee.specs.Searches.{and-left, and-right, or-cases, or-left, or-right, implied, implies, each-yes, yes-each}
 use Rattle.guarantee.specs.Undercuts.{NoUndercut, undercut-none, none-undercut}
@@ -128,7 +128,7 @@ module _ (p : Problem) (v picks : ℕ → ℕ) where
     least : C ≡ leastCost p picks
 
   table-yes : (C : ℕ) → tableQuestions p v picks ≡ accepted C → TableYes C
-  unfolding tableQuestions
+  unfolding tableQuestionsWith
   table-yes C h =
       let h₁ = else-next (leb (p .states) (unboundedState p v)) _ _ _ _ h in
       let h₂ = else-next (leb (p .states) (undercutState p v)) _ _ _ _ h₁ in
@@ -144,7 +144,7 @@ module _ (p : Problem) (v picks : ℕ → ℕ) where
       }
 
   yes-table : (C : ℕ) → TableYes C → tableQuestions p v picks ≡ accepted C
-  unfolding tableQuestions
+  unfolding tableQuestionsWith
   yes-table C h = rw (h .bounded, h .undercut, h .stray, h .slack, h .least)
 
   -- question 16 says yes to a table that is 0 at goals and at most 1000 × D elsewhere
@@ -223,7 +223,7 @@ pub record AuditYes (f values picks : List ℕ) (C : ℕ) : Type 0 where
 
 problem-yes : (p : Problem) (values picks : List ℕ) (C : ℕ) → problemAudit p values picks ≡ accepted C
     → (p .states ≤ length values) × (p .states ≤ length picks) × (tableQuestions p (byState values) (byState picks) ≡ accepted C)
-unfolding problemAudit
+unfolding problemAuditWith
 problem-yes p values picks C h =
     let h₁ = else-next (leb (p .states) (length values)) _ _ _ _ h in (
       leb-true _ _ (else-yes (leb (p .states) (length values)) _ _ _ _ h),
@@ -232,7 +232,7 @@ problem-yes p values picks C h =
     )
 
 pub audit-yes : (f values picks : List ℕ) (C : ℕ) → audit f values picks ≡ accepted C → AuditYes f values picks C
-unfolding audit
+unfolding auditWithin
 audit-yes f values picks C h = step (fileQuestions f) refl h
   where
     step : (q : Verdict) → fileQuestions f ≡ q → auditOn q (problemOf f) values picks ≡ accepted C → AuditYes f values picks C
@@ -245,7 +245,7 @@ audit-yes f values picks C h = step (fileQuestions f) refl h
 pub audit-table
     : (f values picks : List ℕ) → fileQuestions f ≡ passes → problemOf f .states ≤ length values → problemOf f .states ≤ length picks
     → audit f values picks ≡ tableQuestions (problemOf f) (byState values) (byState picks)
-unfolding audit problemAudit
+unfolding auditWithin problemAuditWith
 audit-table f values picks file values-long picks-long =
     rw (file, le-leb (problemOf f .states) (length values) values-long, le-leb (problemOf f .states) (length picks) picks-long) refl
 

@@ -13,10 +13,10 @@ use Rattle.model.specs.Limits.{giveUp}
 use Rattle.model.specs.Problem.{Problem, giveUpCost, ownRow}
 use Rattle.model.specs.Value.{rowValue}
 use Rattle.model.specs.Search.{first}
-use Rattle.model.specs.Walk.{walk, at-start, leastCost, leastOn, leastTo, pickCost, pickCostOn}
+use Rattle.model.specs.Walk.{walk, at-start, leastCost, leastCostWith, leastOn, leastTo, pickCost, pickCostOn}
 use Rattle.model.specs.Questions.{undercutRow, undercutState}
 use Rattle.model.specs.Audit.{Audited, accepted, refused, orElse, pickValue, pickValueOn, boundedOn, unboundedState, open-state}
-use Rattle.model.specs.Audit.{ownPick, strayState, slackState, tableQuestions}
+use Rattle.model.specs.Audit.{ownPick, strayState, slackState, tableQuestions, tableQuestionsWith}
 use Rattle.guarantee.specs.WellFormed.{WellFormed}
 use Rattle.guarantee.specs.Searches.{or-clear, first-same, first-at, each-yes, implied}
 use Rattle.guarantee.specs.Undercuts.{SameRows, undercut-row-same, undercut-state-same}
@@ -194,11 +194,11 @@ module _ (p q : Problem) (formed : WellFormed p) (v w picks picks′ : ℕ → �
         at false o = refl
 
     least-same : leastCost p picks ≡ leastCost q picks′
-    unfolding leastCost
+    unfolding leastCostWith
     least-same = least-to-same (p .states) (omega arith) ∙ ap (leastTo q picks′ marks′) (alike .states)
 
   pub tables-alike : tableQuestions p v picks ≡ tableQuestions q w picks′
-  unfolding tableQuestions
+  unfolding tableQuestionsWith
   tables-alike =
       or-else-same (ap₂ leb (alike .states) unbounded-same) (λ n. ap (λ s. refused 16 s (pos 0)) unbounded-same)
       λ bounded. or-else-same (ap₂ leb (alike .states) state-same) (λ n. undercut-same (leb-false _ _ n))

@@ -13,7 +13,8 @@ use Rattle.model.specs.Problem.{Problem}
 use Rattle.model.specs.Value.{byState}
 use Rattle.model.specs.Walk.{In, here, there, walk}
 use Rattle.model.specs.Rounds.{Machine, Found, scanOf, raiseOn, rises, settle, backup}
-use Rattle.model.specs.Rounds.{backups, walked, round, Ending, solved, spent, runFrom, machineStart, goesOn, runOf}
+use Rattle.model.specs.Rounds.{backups, walked, round, roundWith, Ending, solved, spent, runFrom, runFromWith, machineStart}
+use Rattle.model.specs.Rounds.{goesOn, goesOnWith, runOf}
 use Rattle.model.specs.declared.Kind.{Kind}
 use Rattle.model.specs.declared.Kind.the-variants.{Plain, Finishing}
 use Rattle.guarantee.specs.WellFormed.{WellFormed}
@@ -77,7 +78,7 @@ backups-list p e [] m = refl
 backups-list p e (s ∷ l) m = backups-list p e l (backup p e s m) ∙ backup-list p e s m
 
 pub round-list : (p : Problem) (e : ℕ) (m : Machine) → round p e m .list ≡ walk p (byState (m .picks)) .list
-unfolding round
+unfolding roundWith
 round-list p e m = backups-list p e (walk p (byState (m .picks)) .list) (walked p m)
 
 pub walk-opens : (p : Problem) → WellFormed p → (picks : ℕ → ℕ) (s : ℕ) → In s (walk p picks .list) → Open p s
@@ -91,7 +92,7 @@ module _ (p : Problem) (e : ℕ) (Inv : Machine → Type 0) (kept : (s : ℕ) (m
   backups-keep (s ∷ l) m opens h = backups-keep l (backup p e s m) (λ t i. opens t (there i)) (kept s m (opens s here) h)
 
   pub round-keeps : WellFormed p → (m : Machine) → Inv (walked p m) → Inv (round p e m)
-  unfolding round
+  unfolding roundWith
   round-keeps formed m h = backups-keep (walk p (byState (m .picks)) .list) (walked p m) (walk-opens p formed (byState (m .picks))) h
 
 -- the quiet round that ends a solved run: the machine before it, of which `Inv n` holds after n rounds
@@ -105,7 +106,7 @@ pub record Quiet (p : Problem) (e : ℕ) (Inv : ℕ → Machine → Type 0) (k :
 
 -- a run that is not going is solved
 pub run-stops : (p : Problem) (e budget n : ℕ) (m : Machine) → runFrom p e budget false n m ≡ solved n m
-unfolding runFrom
+unfolding runFromWith
 run-stops p e zero n m = refl
 run-stops p e (suc budget) n m = refl
 
@@ -114,7 +115,7 @@ module _ (p : Problem) (e : ℕ) (Inv : ℕ → Machine → Type 0) (kept : (n :
   pub run-keeps
       : (budget : ℕ) (going : Bool) (n : ℕ) (m : Machine) → Inv n m
       → Inv (roundsOf (runFrom p e budget going n m)) (machineOf (runFrom p e budget going n m))
-  unfolding runFrom
+  unfolding runFromWith
   run-keeps zero true n m h = h
   run-keeps zero false n m h = h
   run-keeps (suc budget) false n m h = h
@@ -123,7 +124,7 @@ module _ (p : Problem) (e : ℕ) (Inv : ℕ → Machine → Type 0) (kept : (n :
   -- a solved run ends with a quiet round
   pub run-quiet
       : (budget n : ℕ) (m : Machine) (k : ℕ) (m′ : Machine) → Inv n m → runFrom p e budget true n m ≡ solved k m′ → Quiet p e Inv k m′
-  unfolding runFrom
+  unfolding runFromWith
   run-quiet zero n m k m′ h q = absurd (spent-not-solved q)
   run-quiet (suc budget) n m k m′ h q =
       go (round p e m .moved) refl q (λ q′. run-quiet budget (suc n) (round p e m) k m′ (kept n m h) q′)
@@ -139,7 +140,7 @@ module _ (p : Problem) (e : ℕ) (Inv : ℕ → Machine → Type 0) (kept : (n :
 -- a run that is spent has done every round of its budget
 pub run-spent
     : (p : Problem) (e budget n : ℕ) (m : Machine) (k : ℕ) (m′ : Machine) → runFrom p e budget true n m ≡ spent k m′ → k ≡ n + budget
-unfolding runFrom
+unfolding runFromWith
 run-spent p e zero n m k m′ q = let same : n ≡ k = cc in omega arith
 run-spent p e (suc budget) n m k m′ q = go (round p e m .moved) q (run-spent p e budget (suc n) (round p e m) k m′)
   where
@@ -151,18 +152,33 @@ run-spent p e (suc budget) n m k m′ q = go (round p e m .moved) q (run-spent p
 
 -- and no run does more
 run-rounds : (p : Problem) (e budget : ℕ) (going : Bool) (n : ℕ) (m : Machine) → roundsOf (runFrom p e budget going n m) ≤ n + budget
-unfolding runFrom
+unfolding runFromWith
 run-rounds p e zero true n m = omega arith
 run-rounds p e zero false n m = omega arith
 run-rounds p e (suc budget) false n m = omega arith
 run-rounds p e (suc budget) true n m = omega (arith, run-rounds p e budget (round p e m .moved) (suc n) (round p e m))
+
+pub whole-run-rounds
+    : (kind : Kind) (p : Problem) (budget : ℕ) (values picks remembered : List ℕ)
+    → roundsOf (runOf kind p budget values picks remembered) ≤ budget
+unfolding goesOnWith
+whole-run-rounds kind p budget values picks remembered =
+    go kind (runFrom p (p .tolerance) budget true 0 start) (run-rounds p (p .tolerance) budget true 0 start)
+  where
+    start : Machine
+    start = machineStart p values picks remembered
+
+    go : (kind : Kind) (end : Ending) → roundsOf end ≤ 0 + budget → roundsOf (goesOn kind p budget end) ≤ budget
+    go Plain end few = omega arith
+    go Finishing (spent n m) few = omega arith
+    go Finishing (solved n m) few = omega (arith, run-rounds p 1 (budget - n) true n m)
 
 -- The run of a problem of either kind: what every round keeps, with whatever tolerance, holds of its ending
 module _ (p : Problem) (Inv : ℕ → Machine → Type 0) (kept : (e n : ℕ) (m : Machine) → Inv n m → Inv (suc n) (round p e m)) where
   goes-on-keeps
       : (kind : Kind) (budget : ℕ) (end : Ending) → Inv (roundsOf end) (machineOf end)
       → Inv (roundsOf (goesOn kind p budget end)) (machineOf (goesOn kind p budget end))
-  unfolding goesOn
+  unfolding goesOnWith
   goes-on-keeps Plain budget end h = h
   goes-on-keeps Finishing budget (spent n m) h = h
   goes-on-keeps Finishing budget (solved n m) h = run-keeps p 1 Inv (kept 1) (budget - n) true n m h
@@ -177,7 +193,7 @@ module _ (p : Problem) (Inv : ℕ → Machine → Type 0) (kept : (e n : ℕ) (m
 pub whole-run-spent
     : (kind : Kind) (p : Problem) (budget : ℕ) (values picks remembered : List ℕ) (k : ℕ) (m′ : Machine)
     → runOf kind p budget values picks remembered ≡ spent k m′ → k ≡ budget
-unfolding goesOn
+unfolding goesOnWith
 whole-run-spent kind p budget values picks remembered k m′ q = go kind (runFrom p e budget true 0 start) refl q
   where
     e : ℕ

@@ -14,7 +14,7 @@ use Rattle.model.specs.Sections.{problemOf}
 use Rattle.model.specs.Rounds.{Found, Machine, Ending, beats, evaluateOn, skipped, considerOn, consider, scanStart, scanOf}
 use Rattle.model.specs.Rounds.{raiseOn, rises, settle, backup, walked, fillTo, machineStart, runOf, listTable}
 use Rattle.model.specs.declared.Kind.{Kind}
-use Rattle.model.specs.Solution.{fine, Tables, tablesOf, solutionOf, solution}
+use Rattle.model.specs.Solution.{fine, Tables, tablesOf, solutionOf, solutionOfWith, solution}
 use Rattle.guarantee.specs.WellFormed.{WellFormed, well-formed}
 use Rattle.guarantee.specs.Walks.{own-row, listed-number}
 use Rattle.guarantee.specs.Traversals.{traverse-keeps}
@@ -124,7 +124,7 @@ module _ (p : Problem) (formed : WellFormed p) (t : Tables) where
       }
 
 pub solution-beyond : (kind : Kind) (f : List ℕ) (budget : ℕ) (t : Tables) → Beyond (problemOf f) t (solution kind f budget t .tables)
-unfolding solutionOf
+unfolding solutionOfWith
 solution-beyond kind f budget t = go (told kind f budget t)
   where
     same : {t′ : Tables} → t′ ≡ t → Beyond (problemOf f) t t′

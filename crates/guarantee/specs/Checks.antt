@@ -10,11 +10,13 @@ use Rattle.model.specs.Problem.{Problem}
 use Rattle.model.specs.Value.{byState}
 use Rattle.model.specs.Walk.{In, here, there, walk}
 use Rattle.model.specs.Rounds.{Found, Machine, skipped, considerOn, consider, scanStart, scanOf}
-use Rattle.model.specs.Rounds.{backup, backups, walked, round, Ending, solved, spent, runFrom, machineStart, goesOn, runOf}
+use Rattle.model.specs.Rounds.{backup, backups, walked, round, roundWith, Ending, solved, spent, runFrom, runFromWith}
+use Rattle.model.specs.Rounds.{machineStart, goesOn, goesOnWith, runOf}
 use Rattle.model.specs.declared.Kind.{Kind}
 use Rattle.model.specs.declared.Kind.the-variants.{Plain, Finishing}
 use Rattle.model.specs.Solution.{fine, checkedEvaluate, checkedConsiderOn, checkedConsider}
-use Rattle.model.specs.Solution.{checkedScan, checkedBackup, checkedBackups, checkedRound, checkedRunFrom, checkedGoesOn, checkedRunOf}
+use Rattle.model.specs.Solution.{checkedScan, checkedBackup, checkedBackups, checkedRound, checkedRoundWith, checkedRunFrom}
+use Rattle.model.specs.Solution.{checkedRunFromWith, checkedGoesOn, checkedGoesOnWith, checkedRunOf}
 use Rattle.guarantee.specs.WellFormed.{WellFormed}
 use Rattle.guarantee.specs.Walks.{own-row}
 use Rattle.guarantee.specs.Traversals.{both-keep}
@@ -52,7 +54,7 @@ module _ (p : Problem) (formed : WellFormed p) where
       (checked-backups e l (backup p e s m) (λ t i. opens t (there i)) (backup-sound p formed s m (o .state) sound e (o .no-goal)))
 
   pub checked-round : (e : ℕ) (m : Machine) → Sound p m → checkedRound p e m ≡ fine (round p e m)
-  unfolding checkedRound round
+  unfolding checkedRoundWith roundWith
   checked-round e m sound =
       let picks = byState (m .picks) in
       checked-backups e (walk p picks .list) (walked p m) (walk-opens p formed picks) (walked-sound p formed e m sound)
@@ -60,7 +62,7 @@ module _ (p : Problem) (formed : WellFormed p) where
   checked-run
       : (e budget : ℕ) (going : Bool) (n : ℕ) (m : Machine) → Sound p m
       → checkedRunFrom p e budget going n m ≡ fine (runFrom p e budget going n m)
-  unfolding checkedRunFrom runFrom
+  unfolding checkedRunFromWith runFromWith
   checked-run e zero true n m sound = refl
   checked-run e zero false n m sound = refl
   checked-run e (suc budget) false n m sound = refl
@@ -71,7 +73,7 @@ module _ (p : Problem) (formed : WellFormed p) where
   checked-goes-on
       : (kind : Kind) (budget : ℕ) (end : Ending) → Sound p (machineOf end)
       → checkedGoesOn kind p budget end ≡ fine (goesOn kind p budget end)
-  unfolding checkedGoesOn goesOn
+  unfolding checkedGoesOnWith goesOnWith
   checked-goes-on Plain budget end sound = refl
   checked-goes-on Finishing budget (spent n m) sound = refl
   checked-goes-on Finishing budget (solved n m) sound = checked-run 1 (budget - n) true n m sound

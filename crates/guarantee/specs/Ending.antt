@@ -11,7 +11,7 @@ use lib.ListN.{length}
 use Rattle.model.specs.Problem.{Problem}
 use Rattle.model.specs.Value.{byState}
 use Rattle.model.specs.Cover.{allowance, openTo}
-use Rattle.model.specs.Rounds.{Machine, round, Ending, solved, runFrom, fillTo, machineStart, goesOn, runOf}
+use Rattle.model.specs.Rounds.{Machine, round, Ending, solved, runFrom, runFromWith, fillTo, machineStart, goesOn, goesOnWith, runOf}
 use Rattle.model.specs.Promises.{roundBound, roundsEnough}
 use Rattle.model.specs.declared.Kind.{Kind}
 use Rattle.model.specs.declared.Kind.the-variants.{Plain, Finishing}
@@ -40,7 +40,7 @@ module _ (p : Problem) (formed : WellFormed p) (d e : ℕ) (unit : 1 ≤ d) (ste
   pub run-ends
       : (budget n : ℕ) (m : Machine) → Sound p m → potential p d m < budget
       → Solves p d (n + potential p d m + 1) (runFrom p e budget true n m)
-  unfolding runFrom
+  unfolding runFromWith
   run-ends zero n m sound room = absurd (omega arith)
   run-ends (suc budget) n m sound room =
       go (round p e m .moved) refl (run-ends budget (suc n) (round p e m) (after .sound))
@@ -98,7 +98,7 @@ module _ (p : Problem) (formed : WellFormed p) (values picks remembered : List �
   finish-ends
       : (budget : ℕ) (end : Ending) → roundBound p 1 + 1 ≤ budget → Solves p 1 (roundBound p 1) end
       → Solves p 1 (roundBound p 1 + 1) (goesOn Finishing p budget end)
-  unfolding goesOn
+  unfolding goesOnWith
   finish-ends budget end room s =
       let n = s .rounds in
       let m = s .machine in
@@ -109,7 +109,7 @@ module _ (p : Problem) (formed : WellFormed p) (values picks remembered : List �
   pub solve-ends
       : (kind : Kind) (budget : ℕ) → roundsEnough kind p ≤ budget
       → (n : ℕ) × (m : Machine) × (runOf kind p budget values picks remembered ≡ solved n m) × (n ≤ roundsEnough kind p)
-  unfolding goesOn
+  unfolding goesOnWith
   solve-ends Plain budget room =
       let run = start-ends (p .tolerance) (p .tolerance) budget (formed .tolerance-low) (omega arith) room in
       (run .rounds, run .machine, run .ends, omega (arith, run .within))

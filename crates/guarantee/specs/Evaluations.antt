@@ -10,7 +10,7 @@ use Rattle.model.specs.Problem.{Problem, endRow, ownRow}
 use Rattle.model.specs.Value.{rowValue, byState}
 use Rattle.model.specs.Walk.{walk}
 use Rattle.model.specs.Rounds.{othersFrom, Found, Machine, beats, skipped, evaluateOn, considerOn, consider, scan}
-use Rattle.model.specs.Rounds.{scanStart, settle, backup, backups, walked, round}
+use Rattle.model.specs.Rounds.{scanStart, settle, backup, backups, walked, round, roundWith}
 use Rattle.guarantee.specs.WellFormed.{WellFormed}
 use Rattle.guarantee.specs.Rows.{own-low, own-high}
 use Rattle.guarantee.specs.Traversals.{others-keep, traverse-along}
@@ -85,7 +85,7 @@ module _ (p : Problem) (e : ℕ) where
 
   -- a round counts at most the file's rows
   pub round-count : WellFormed p → (m : Machine) → Counted (m .evaluations) (round p e m .evaluations) (p .rows)
-  unfolding round
+  unfolding roundWith
   round-count formed m =
       let l = walk p (byState (m .picks)) .list in
       omega (arith, backups-count l (walked p m), listed-rows p formed (byState (m .picks)))

@@ -16,7 +16,7 @@ use Rattle.model.specs.Walk.{walk}
 use Rattle.model.specs.Questions.{Verdict, passes, fails, fileQuestions}
 use Rattle.model.specs.Questions.{undercutState, undercutRow}
 use Rattle.model.specs.Audit.{Audited, accepted, refused, orElse, open-state, pickValue, unboundedState, strayState, slackState}
-use Rattle.model.specs.Audit.{tableQuestions, problemAudit, auditOn, audit}
+use Rattle.model.specs.Audit.{tableQuestions, tableQuestionsWith, problemAuditWith, auditOn, audit, auditWithin}
 use Rattle.model.specs.Promises.{ExcessFits}
 use Rattle.guarantee.specs.Searches.{or-none, first-at}
 use Rattle.guarantee.specs.Numbers.{early-file, early-number}
@@ -86,7 +86,7 @@ module _ (p : Problem) (v picks : ℕ → ℕ) where
       (omega (arith, leb-false (p .states) (slackState p v picks marks) h))))
 
   pub table-excess : 1 ≤ p .tolerance → Fitting (p .tolerance) (tableQuestions p v picks)
-  unfolding tableQuestions
+  unfolding tableQuestionsWith
   table-excess low =
       let e = p .tolerance in
       let marks = walk p picks .marks in
@@ -102,7 +102,7 @@ module _ (p : Problem) (v picks : ℕ → ℕ) where
 -- "The audit's refusals carry an excess: .. at least 1 at question 17; .. at 19, at most −e; 0 elsewhere."
 pub audit-excess : (f values picks : List ℕ) (q i : ℕ) (z : ℤ) → audit f values picks ≡ refused q i z
     → ExcessFits (problemOf f .tolerance) q z
-unfolding audit problemAudit
+unfolding auditWithin problemAuditWith
 audit-excess f values picks = step (fileQuestions f) refl .fitting
   where
     step : (said : Verdict) → fileQuestions f ≡ said → Fitting (problemOf f .tolerance) (auditOn said (problemOf f) values picks)

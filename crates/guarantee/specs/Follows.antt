@@ -15,12 +15,13 @@ use Rattle.model.specs.Questions.{Verdict, passes, fails}
 use Rattle.model.specs.Walk.{successors}
 use Rattle.model.specs.Audit.{Audited, accepted, refused as audit-refused, ownPick, audit}
 use Rattle.model.specs.Following.{leadsTo, moveSeconds, atEnd, hasOutcome, mayOccur, reportQuestions, done, refused, Report}
-use Rattle.model.specs.Following.{follow, atStart, opening, moved, report}
+use Rattle.model.specs.Following.{follow, atStart, opening, openingWithin, moved, report, reportWithin}
 use Rattle.model.specs.declared.Follower.{Follower}
 use Rattle.guarantee.specs.Searches.{and-both, or-clear}
 use Rattle.guarantee.specs.Accepted.{audit-formed}
 use Rattle.guarantee.specs.Occurs.{open-goal, asked-moves, asked-occurs, asked-open, asked-seconds}
-use Rattle.guarantee.specs.Occurs.{occurs-state, occurs-pick, occurs-has, occurs-given, occurs-outcome, occurs-leads, occurs-seconds}
+use Rattle.guarantee.specs.Occurs.{occurs-state, occurs-pick, occurs-has, occurs-given, occurs-outcome, occurs-leads}
+use Rattle.guarantee.specs.Occurs.{occurs-seconds}
 
 -- what a record shows where the answer is done: a state of the file, at most a million moves, the seconds of the last move over the
 -- most that a report takes
@@ -37,7 +38,7 @@ module _ (f values picks : List ℕ) where
         → Reported w o (record { answer = done; left = moved (problemOf f) (byState picks) w o })
 
   pub reported : (w : Follower) (o : ℕ) → Reported w o (report f values picks w o)
-  unfolding report
+  unfolding reportWithin
   reported w o = step (audit f values picks) (reportQuestions (problemOf f) (byState picks) w o) refl refl
     where
       step : (a : Audited) (v : Verdict) → audit f values picks ≡ a → reportQuestions (problemOf f) (byState picks) w o ≡ v
@@ -50,17 +51,17 @@ module _ (f values picks : List ℕ) where
   pub audit-first : {q i : ℕ} {z : ℤ} → audit f values picks ≡ audit-refused q i z → (w : Follower)
       → (opening f values picks w ≡ record { answer = refused q i z; left = w })
       × ((o : ℕ) → report f values picks w o ≡ record { answer = refused q i z; left = w })
-  unfolding opening report
+  unfolding openingWithin reportWithin
   audit-first a w = (rw a refl, λ o. rw a refl)
 
   -- an opening is done exactly where the audit accepts
   pub opened : {C : ℕ} → audit f values picks ≡ accepted C → (w : Follower)
       → opening f values picks w ≡ record { answer = done; left = atStart (problemOf f) }
-  unfolding opening
+  unfolding openingWithin
   opened a w = rw a refl
 
   pub opens : (w : Follower) → opening f values picks w .answer ≡ done → (C : ℕ) × (audit f values picks ≡ accepted C)
-  unfolding opening
+  unfolding openingWithin
   opens w h = step (audit f values picks) refl h
     where
       step : (a : Audited) → audit f values picks ≡ a → follow a passes w (atStart (problemOf f)) .answer ≡ done
@@ -71,7 +72,7 @@ module _ (f values picks : List ℕ) where
   -- a refusal leaves the record
   pub opening-stays : (w : Follower) {q i : ℕ} {z : ℤ} → opening f values picks w .answer ≡ refused q i z
       → opening f values picks w .left ≡ w
-  unfolding opening
+  unfolding openingWithin
   opening-stays w h = step (audit f values picks) h
     where
       step : (a : Audited) {q i : ℕ} {z : ℤ} → follow a passes w (atStart (problemOf f)) .answer ≡ refused q i z
@@ -90,7 +91,7 @@ module _ (f values picks : List ℕ) where
   -- an opening is refused by the audit alone
   pub refused-audit : (w : Follower) {q i : ℕ} {z : ℤ} → opening f values picks w .answer ≡ refused q i z
       → audit f values picks ≡ audit-refused q i z
-  unfolding opening
+  unfolding openingWithin
   refused-audit w h = step (audit f values picks) h
     where
       step : (a : Audited) {q i : ℕ} {z : ℤ} → follow a passes w (atStart (problemOf f)) .answer ≡ refused q i z
@@ -104,7 +105,7 @@ module _ (f values picks : List ℕ) where
   -- at its end the record meets 20 and stays
   pub ended-refused : {C : ℕ} → audit f values picks ≡ accepted C → (w : Follower) → atEnd (problemOf f) w ≡ true → (o : ℕ)
       → report f values picks w o ≡ record { answer = refused 20 0 (pos 0); left = w }
-  unfolding report reportQuestions
+  unfolding reportWithin reportQuestions
   ended-refused a w e o = rw (a, e) refl
 
   -- giving up sets the mark
@@ -191,7 +192,7 @@ module _ (f values picks : List ℕ) where
           }
 
   pub takes-done : (w : Follower) (o : ℕ) → Takes w o → report f values picks w o .answer ≡ done
-  unfolding report reportQuestions
+  unfolding reportWithin reportQuestions
   takes-done w o t =
       let inside = lt-ltb (w .state) (problemOf f .states) (t .state-there) in
       let first : atEnd (problemOf f) w ≡ false = rw (eq-eqb (w .mark) 0 (t .mark-clear), inside, t .no-goal) refl in
@@ -203,7 +204,7 @@ module _ (f values picks : List ℕ) where
   -- which of a report's questions said no
   pub report-failed : {C : ℕ} → audit f values picks ≡ accepted C → (w : Follower) (o : ℕ) {q i : ℕ} {z : ℤ}
       → report f values picks w o .answer ≡ refused q i z → reportQuestions (problemOf f) (byState picks) w o ≡ fails q i
-  unfolding report
+  unfolding reportWithin
   report-failed {C} a w o h = step (reportQuestions (problemOf f) (byState picks) w o) (rw a at h)
     where
       step : (v : Verdict) {q i : ℕ} {z : ℤ}

@@ -8,7 +8,7 @@ use mathlib.Core.Bool.{Bool, true, false}
 use lib.Dec.{eqb}
 use lib.ListN.{getD, length, drop}
 use borrow.Author.Tests.{eqb-false}
-use Rattle.model.specs.Audit.{audit}
+use Rattle.model.specs.Audit.{audit, auditWithin}
 use Rattle.model.specs.Bytes.{u16At}
 use Rattle.model.specs.Encoding.{settingsOn, settingNumber, outcomesTo}
 use Rattle.model.specs.Limits.{minSettings, thousandths, maxOutcomes}
@@ -270,7 +270,7 @@ module _ (f g : List ℕ) (h : fileQuestions f ≡ passes) (k : fileQuestions g 
   -- the same data, the same audit of every two tables
   same-data-audits
       : Same (problemOf f) (problemOf g) → (values picks : List ℕ) → audit f values picks ≡ audit g values picks
-  unfolding audit
+  unfolding auditWithin
   same-data-audits same values picks =
       rw (h, k)
       (same-audits (problemOf f) (problemOf g) (well-formed f h) (well-formed g k) same values picks)

@@ -298,18 +298,26 @@ module _ (goal : ℕ → Bool) (next : ℕ → List ℕ) (n : ℕ) (set-of : ℕ
         now-marked,
       )
 
-    pub state-visited : (d : ℕ) → Visits d (visitState goal next d)
-    unfolding visitState
-    state-visited zero s w mine clear r =
+    -- marking an unmarked node uses up one of the depth
+    pub ready-mark : {d : ℕ} (s : ℕ) {w : Trail} → set-of s → getD (w .marks) s 0 ≡ 0 → VisitReady (suc d) w → VisitReady d (mark s w)
+    ready-mark s {w} mine clear r =
         let inside : s < length (w .marks) = omega (arith, set-below s mine, r .room) in
-        absurd (omega (arith, r .deep, unmarked-holds each (w .marks) s n inside (set-below s mine) clear))
-    state-visited (suc d) s w mine clear r =
-        let inside : s < length (w .marks) = omega (arith, set-below s mine, r .room) in
-        let ready : VisitReady d (mark s w) = record {
+        record {
           room = omega (arith, r .room, length-set (w .marks) s 1);
           binary = set-entry (λ j m. m ≤ 1) (w .marks) s 1 inside (λ j ne. r .binary j) (omega arith);
           deep = omega (arith, r .deep, unmarked-mark each (w .marks) s n inside (set-below s mine) clear);
-        } in
+        }
+
+    -- where a node is unmarked, a depth that is enough is at least 1
+    pub ready-deep : {d : ℕ} (s : ℕ) {w : Trail} → set-of s → getD (w .marks) s 0 ≡ 0 → VisitReady d w → 1 ≤ d
+    ready-deep s {w} mine clear r =
+        omega (arith, r .deep, unmarked-holds each (w .marks) s n (omega (arith, set-below s mine, r .room)) (set-below s mine) clear)
+
+    pub state-visited : (d : ℕ) → Visits d (visitState goal next d)
+    unfolding visitState
+    state-visited zero s w mine clear r = absurd (omega (arith, ready-deep s mine clear r))
+    state-visited (suc d) s w mine clear r =
+        let ready = ready-mark s mine clear r in
         let outs = outcomes-visited d (visitState goal next d) (state-visited d) (next s) (mark s w) (λ t i. along s t mine i) ready in
         joined s w _ mine clear (r .room) (outs .0) (outs .1) (goal s) refl
 

@@ -1,38 +1,44 @@
 -- What is promised of the rules of documents 01 and 02: each sentence is quoted over the theorem that it is, and a proof is a line
 -- that cites. Nothing has to be believed but the model. The statements add `Met`, `finishedValues`, `finishedPicks`, `after` and `taken`
 -- below and, of other files, with what these rest on: `Accepts`, with `AcceptsWithin`, `NoUndercut` and `Marked`; `withTolerance`; `Beyond`;
--- `HasLine` and `PickLine`; `Encodable`, with `WellFormed`; `Says`; `machineOf`; `Allowed`; `Takes`. All else that a statement names is of
--- the model, or of the kit.
+-- `HasLine` and `PickLine`; `Encodable`, with `WellFormed`; `Says`; `machineOf`; `Allowed`; `Takes`; `CountsWithin`; `cut`. All else that
+-- a statement names is of the model, or of the kit.
 use mathlib.Core.Path.{_≡_, _∙_, ap}
 use Prim.Native.Nat.{ℕ, _+_, _-_, _*_, _≤_, _<_}
 use native.Mathlib.Omega.{arith}
 use mathlib.Core.Bool.{Bool, true, false}
 use mathlib.Core.Logic.{_⊎_, _↔_}
 use mathlib.Core.List.{List, [], _∷_}
-use lib.Dec.{eqb}
+use lib.Dec.{eqb, leb}
 use lib.IntN.{ℤ, pos}
 use lib.ListN.{getD, length}
-use Rattle.model.specs.Limits.{maxTolerance, maxBudget, giveUp, noPick, maxMoves, minRate, maxRate}
+use Rattle.model.specs.Limits.{oldLimits, maxStates, maxTolerance, maxBudget, planRounds, planHolds, valueBound, giveUp, noPick}
+use Rattle.model.specs.Limits.{maxMoves, minRate, maxRate}
 use Rattle.model.specs.Problem.{Problem, Outcome, giveUpCost, ownRow}
 use Rattle.model.specs.Value.{byState, weightedSum, rowTicks, rowValue, rowRemainder}
-use Rattle.model.specs.Sections.{lengthSeconds, rateSeconds, kindOf, costNumberOf, atTolerance, problemOf}
-use Rattle.model.specs.Questions.{passes, fails, _then_, fileQuestions}
+use Rattle.model.specs.Sections.{lengthSeconds, rateSeconds, kindOf, costNumberOf, outcomesAt, atTolerance, problemOf}
+use Rattle.model.specs.Questions.{passes, fails, _then_, ask, fileQuestions, fileQuestionsWithin}
 use Rattle.model.specs.Walk.{In, walk, Reached, successors, pickCost, leastCost}
-use Rattle.model.specs.Rounds.{Machine, scanOf, backup, backups, walked, round, machineStart, runFrom, runOf, listTable, bellman}
+use Rattle.model.specs.Rounds.{Machine, scanOf, backup, backups, walked, round, roundWith, machineStart, runFrom, runOf}
+use Rattle.model.specs.Rounds.{listTable, bellman}
 use Rattle.model.specs.declared.Counts.{Counts}
 use Rattle.model.specs.declared.Kind.{Kind}
 use Rattle.model.specs.declared.Kind.the-variants.{Plain, Finishing}
-use Rattle.model.specs.Solution.{fine, Tables, solved, spent, refused, solutionOf, solveQuestions, solution}
-use Rattle.model.specs.Audit.{accepted, refused as audit-refused, ownPick, pickValue, audit}
+use Rattle.model.specs.Solution.{fine, Tables, solved, spent, refused, solutionOf, solveQuestions, solution, solutionWithin}
+use Rattle.model.specs.Answers.{answerCarries}
+use Rattle.model.specs.Audit.{accepted, refused as audit-refused, ownPick, pickValue, audit, auditWithin}
 use Rattle.model.specs.Following.{wayTo, waySeconds, hasOutcome, done, refused as report-refused, Report, atStart, opening, report}
+use Rattle.model.specs.Following.{openingWithin, reportWithin}
+use Rattle.model.specs.Lookup.{rowsOf, rowsWithin}
+use Rattle.model.specs.Lines.{planText}
 use Rattle.model.specs.Following.{reports, acceptedOf}
 use Rattle.model.specs.declared.Follower.{Follower}
 use Rattle.model.specs.Cover.{Choice, Cover, planOf}
-use Rattle.model.specs.Promises.{roundsEnough}
+use Rattle.model.specs.Promises.{roundsEnough, planTables, planSolution}
 use Rattle.model.specs.Sheets.{sheetText, tableText}
 use Rattle.model.specs.Bytes.{u16At}
 use Rattle.model.specs.Encoding.{settingsOn, encode}
-use Rattle.model.specs.SetForm.{setForm, Same}
+use Rattle.model.specs.SetForm.{setForm, Same, exchange, exchangeWithin}
 use Rattle.guarantee.specs.Rates.{seconds-rounded, rate-cost, table-printed}
 use Rattle.guarantee.specs.Totals.{total-low}
 use Rattle.guarantee.specs.WellFormed.{well-formed, file-long}
@@ -50,7 +56,11 @@ use Rattle.guarantee.specs.Beyond.{Beyond, solution-beyond}
 use Rattle.guarantee.specs.Hollow.{table-too-dear}
 use Rattle.guarantee.specs.Underway.{Underway, turn-open, underway-start, underway-walked, underway-backup, scan-any-memory}
 use Rattle.guarantee.specs.Solutions.{lent-sound, solution-run, solution-ends, spent-budget, spent-the-same, refused-by}
-use Rattle.guarantee.specs.Solutions.{never-fourteen, answer-accepted, answer-gives-up}
+use Rattle.guarantee.specs.Solutions.{evaluations-few, never-fourteen, answer-accepted, answer-gives-up}
+use Rattle.guarantee.specs.Lent.{cut}
+use Rattle.guarantee.specs.Longer.{CountsWithin, old-verdict, old-solution, old-audit, old-exchange, old-opening}
+use Rattle.guarantee.specs.Longer.{old-report, old-rows}
+use Rattle.guarantee.specs.Longer.{old-text, old-tables, larger-met}
 use Rattle.guarantee.specs.Values.{rowValue-exact, rowRemainder-low}
 use Rattle.guarantee.specs.Listings.{HasLine, PickLine, lines-pick, solved-list, solved-lines}
 use Rattle.guarantee.specs.Follows.{opened, opens, audit-first, opening-stays, report-stays, ended-refused, given-up-ended}
@@ -190,6 +200,72 @@ pub spent-alike
     : (f : List ℕ) (budget : ℕ) (t : Tables) (c : Counts) → solution Plain f budget t .answer ≡ spent c
     → solution Finishing f budget t ≡ solution Plain f budget t
 spent-alike = spent-the-same
+
+-- Document 01: "The result carries .. evaluations": at the limits of E9 and with every budget that question 13 lets through they fit in 64
+-- bits
+pub evaluations-fit
+    : (kind : Kind) (f : List ℕ) (budget : ℕ) (t : Tables)
+    → answerCarries (solution kind f budget t .answer) .counts .evaluations < valueBound * valueBound
+evaluations-fit = evaluations-few
+
+-- Request E9, longer cores: "every stored file within the old counts, and its plan, gives the same answer, 25 aside". Such a file
+-- (`CountsWithin`), whatever else is given, has within the limits of document 01
+module _ (f : List ℕ) (within : CountsWithin oldLimits f) where
+  -- the verdict,
+  pub stored-verdict : fileQuestionsWithin oldLimits f ≡ fileQuestions f
+  stored-verdict = old-verdict f within
+
+  -- the solution with all tables, plain and finishing,
+  pub stored-solution
+      : (kind : Kind) (budget : ℕ) (t : Tables) → solutionWithin oldLimits kind f budget t ≡ solution kind f budget t
+  stored-solution = old-solution f within
+
+  -- the audit,
+  pub stored-audit : (values picks : List ℕ) → auditWithin oldLimits f values picks ≡ audit f values picks
+  stored-audit = old-audit f within
+
+  -- the set form, with what it leaves of an output,
+  pub stored-form : (out : List ℕ) → exchangeWithin oldLimits f out ≡ exchange f out
+  stored-form = old-exchange f within
+
+  -- the follower's opening and its reports,
+  pub stored-opening
+      : (values picks : List ℕ) (w : Follower) → openingWithin oldLimits f values picks w ≡ opening f values picks w
+  stored-opening = old-opening f within
+
+  pub stored-report
+      : (values picks : List ℕ) (w : Follower) (o : ℕ) → reportWithin oldLimits f values picks w o ≡ report f values picks w o
+  stored-report = old-report f within
+
+  -- the rows of a state that are looked up,
+  pub stored-rows : (s : ℕ) → rowsWithin oldLimits f s ≡ rowsOf f s
+  stored-rows = old-rows f within
+
+  -- and, where `plan` holds it, the text that `plan` prints, though the tables it is lent and makes are longer now; and, where it passes,
+  -- their entries at states and rows (`cut`)
+  module _ (kind : Kind) (values picks values′ picks′ : List ℕ) (v : oldLimits .states ≤ length values)
+      (p : oldLimits .states ≤ length picks) (v′ : maxStates ≤ length values′) (p′ : maxStates ≤ length picks′)
+      (short : length f ≤ planHolds) where
+    pub stored-text
+        : planText (problemOf f) (solutionWithin oldLimits kind f planRounds (planTables oldLimits values picks))
+        ≡ planText (problemOf f) (planSolution kind f values′ picks′)
+    stored-text = old-text f within kind values picks values′ picks′ v p v′ p′ short
+
+    pub stored-tables
+        : fileQuestions f ≡ passes
+        → cut (problemOf f) (solutionWithin oldLimits kind f planRounds (planTables oldLimits values picks))
+        ≡ cut (problemOf f) (planSolution kind f values′ picks′)
+    stored-tables = old-tables f within kind values picks values′ picks′ v p v′ p′ short
+
+-- "An older reader meets a larger file with question 2.": of a file that passes now the limits of document 01 let through the counts that
+-- are within them, and meet the first that is above at its section; they find nothing else
+pub older-reader
+    : (f : List ℕ) → fileQuestions f ≡ passes
+    → fileQuestionsWithin oldLimits f
+    ≡ (ask 2 1 (leb (problemOf f .states) (oldLimits .states))
+    then ask 2 2 (leb (problemOf f .rows) (oldLimits .rows))
+    then ask 2 3 (leb (u16At f (outcomesAt f)) (oldLimits .outcomes)))
+older-reader = larger-met oldLimits
 
 -- Request E3: "The row value shall come with its remainder, 0 to 999", and E7: "Remainders run below W.": W × (value − 1000 × c) and the
 -- remainder are together the exact sum, whatever W is, and the remainder is below every W of at least 1
@@ -342,7 +418,7 @@ module _ (p : Problem) (t : Tables) (e : ℕ) where
   backups-met (s ∷ l) m met = backups-met l (backup p e s m) (backs-up e met)
 
   round-met : (m : Machine) → Met p t [] m → Met p t [] (round p e m)
-  unfolding round
+  unfolding roundWith
   round-met m met = backups-met (walk p (byState (m .picks)) .list) (walked p m) (walks met)
 
   -- a run from a machine that is met, with whatever tolerance, ends at one

@@ -14,7 +14,7 @@ use Rattle.model.specs.Problem.{Problem, giveUpCost, ownRow}
 use Rattle.model.specs.Value.{rowValue}
 use Rattle.model.specs.Questions.{undercutRow, undercutState}
 use Rattle.model.specs.Walk.{In, next, walk, Reached, at-start, along}
-use Rattle.model.specs.Audit.{Audited, refused, pickValue, unboundedState, strayState, slackState, tableQuestions}
+use Rattle.model.specs.Audit.{Audited, refused, pickValue, unboundedState, strayState, slackState, tableQuestions, tableQuestionsWith}
 use Rattle.guarantee.specs.WellFormed.{WellFormed}
 use Rattle.guarantee.specs.Graphs.{in-nil}
 use Rattle.guarantee.specs.Rows.{own-low, own-high, giveUp-not-own}
@@ -56,7 +56,7 @@ module _ (p : Problem) (formed : WellFormed p) (v picks : ℕ → ℕ) (gives : 
         λ s l goal marked. inl (rw (only-start s (marked-reached p formed picks s (eqb-false _ _ marked))) gives)
 
     pub table-too-dear : TooDear (tableQuestions p v picks)
-    unfolding tableQuestions
+    unfolding tableQuestionsWith
     table-too-dear = on (leb (p .states) (undercutState p v)) refl (leb (p .states) slack) refl
       where
         bounded : leb (p .states) (unboundedState p v) ≡ true

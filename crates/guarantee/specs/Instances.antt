@@ -5,6 +5,7 @@
 -- P's facts are those of the melt-room cases and a few more computed from its bytes; the rest cites the theorems.
 use mathlib.Core.Path.{_≡_, refl, sym, _∙_, ap}
 use Prim.Native.Nat.{ℕ, _+_, _-_, _*_, _≤_, _<_}
+use native.Mathlib.Nat.{le-of-eq}
 use native.Mathlib.Omega.{arith}
 use mathlib.Core.Bool.{false}
 use mathlib.Core.List.{List, [], _∷_}
@@ -14,22 +15,23 @@ use lib.IntN.{ℤ}
 use lib.ListN.{getD, length, replicate, length-replicate}
 use borrow.Author.Tests.{leb-true, le-leb}
 use Rattle.model.specs.Bytes.{u16At, u32At, numberBytes}
-use Rattle.model.specs.Limits.{maxBudget, planRounds, giveUp, minRate, maxRate, rateCount}
-use Rattle.model.specs.CaseFiles.{fileP, partnerP, penaltyP, tiedLater, rounding, coarse, valuesP, picksP, lent, planned, finishing, at}
+use Rattle.model.specs.Limits.{oldLimits, maxStates, thousandths, maxBudget, planRounds, giveUp, minRate, maxRate, rateCount}
+use Rattle.model.specs.CaseFiles.{fileP, partnerP, penaltyP, tiedLater, rounding, coarse, valuesP, picksP, lent, planned}
+use Rattle.model.specs.CaseFiles.{finishing, at}
 use Rattle.model.specs.Computed.{cases-hold, others-hold, forms-hold, finishings-hold}
 use Rattle.model.specs.Problem.{Problem, Outcome, giveUpCost}
-use Rattle.model.specs.Lines.{runStates, listed}
+use Rattle.model.specs.Lines.{runStates, listed, planText}
 use Rattle.model.specs.Search.{first, sumTo}
 use Rattle.model.specs.Value.{byState, rowValue, rowRemainder, weightedSum, totalWeight}
 use Rattle.model.specs.Sections.{statesAt, rowsAt, outcomesAt, fileEnd, outcomesFrom, lengthSeconds, rateSeconds, secondsOn}
 use Rattle.model.specs.Sections.{kindOf, atTolerance, problemOf}
-use Rattle.model.specs.Questions.{passes, sectionQuestions, endQuestion, layoutQuestions, settingQuestions, stateObeys}
+use Rattle.model.specs.Questions.{passes, fails, sectionQuestions, endQuestion, layoutQuestionsWithin, settingQuestions, stateObeys}
 use Rattle.model.specs.Questions.{stateQuestion, startQuestion, rowNumberQuestion, costObeys, rowObeys, rowQuestion}
 use Rattle.model.specs.Questions.{outcomeNumberQuestion, outcomesObey, outcomeQuestion, undercutRow, undercutState}
-use Rattle.model.specs.Questions.{estimateQuestion, itemQuestions, fileQuestions}
-use Rattle.model.specs.Walk.{In, Reached, at-start, successors, visitOutcomes, visitState, next, walk, pickCost, leastCost}
-use Rattle.model.specs.Walk.{leastTo}
-use Rattle.model.specs.Rounds.{fillTo, listTable, machineStart, runFrom, goesOn, runOf}
+use Rattle.model.specs.Questions.{estimateQuestion, itemQuestions, fileQuestions, fileQuestionsWithin}
+use Rattle.model.specs.Walk.{In, Reached, at-start, successors, visitOutcomes, visitState, next, walk, walkWith, pickCost}
+use Rattle.model.specs.Walk.{leastCostWith, leastTo}
+use Rattle.model.specs.Rounds.{fillTo, listTable, machineStart, runFromWith, goesOnWith, runOf}
 use Rattle.model.specs.Encoding.{settingsOn, encode}
 use Rattle.model.specs.SetForm.{inSetForm, setForm, Same}
 use Rattle.model.specs.Sheets.{sheetText, tableText}
@@ -37,11 +39,12 @@ use Rattle.model.specs.Carried.{counts}
 use Rattle.model.specs.declared.Counts.{Counts}
 use Rattle.model.specs.declared.Kind.{Kind}
 use Rattle.model.specs.declared.Kind.the-variants.{Plain, Finishing}
-use Rattle.model.specs.Solution.{fine, Tables, solved, spent, refused, solutionOf, solveQuestions, solution}
-use Rattle.model.specs.Audit.{accepted, refused as audit-refused, audit, problemAudit, tableQuestions, unboundedState, strayState}
-use Rattle.model.specs.Audit.{slackState, pickValue}
+use Rattle.model.specs.Solution.{fine, Tables, solved, spent, refused, solutionOf, solutionOfWith, solveQuestions, solution}
+use Rattle.model.specs.Solution.{solutionWithin}
+use Rattle.model.specs.Audit.{accepted, refused as audit-refused, audit, auditWithin, problemAuditWith, tableQuestionsWith}
+use Rattle.model.specs.Audit.{unboundedState, strayState, slackState, pickValue}
 use Rattle.model.specs.Cover.{Choice, Cover, planOf, allowance, allowanceTo, openTo}
-use Rattle.model.specs.Promises.{Close, roundBound, roundsEnough}
+use Rattle.model.specs.Promises.{Close, roundBound, roundsEnough, planTables, planSolution}
 use Rattle.guarantee.specs.WellFormed.{WellFormed, Laid, well-formed, laid}
 use Rattle.guarantee.specs.Searches.{yes-ask}
 use Rattle.guarantee.specs.Tables.{fill-entry}
@@ -49,6 +52,7 @@ use Rattle.guarantee.specs.Accepted.{audit-yes, audit-accepts}
 use Rattle.guarantee.specs.Closeness.{audit-close}
 use Rattle.guarantee.specs.Encodings.{Encodable, Says}
 use Rattle.guarantee.specs.Forms.{form-encodable}
+use Rattle.guarantee.specs.Longer.{CountsWithin}
 use Rattle.guarantee.specs.Retuned.{withTolerance}
 use Rattle.guarantee.specs.Solutions.{solution-refused}
 use Rattle.guarantee.specs.Listings.{HasLine, PickLine}
@@ -58,7 +62,8 @@ use Rattle.guarantee.specs.Guarantee.{file-remainder-low, lines-name-pic
 use Rattle.guarantee.specs.Guarantee.{rounding-rule, sheet-is-the-table, files-keep-meaning, equal-forms, equal-forms-audit}
 use Rattle.guarantee.specs.Guarantee.{form-is-accepted, form-setting-count, form-kind, form-rises, form-weights}
 use Rattle.guarantee.specs.Guarantee.{form-says-the-same, form-no-longer, form-stays, form-values, form-remainders}
-use Rattle.guarantee.specs.Guarantee.{form-audits, encoded-reads-back, file-longer-than-tables, refusal}
+use Rattle.guarantee.specs.Guarantee.{form-audits, encoded-reads-back, file-longer-than-tables, refusal, stored-text}
+use Rattle.guarantee.specs.Guarantee.{older-reader}
 use Rattle.guarantee.specs.Guarantee.{finished-to-the-tick, finished-acceptance, finished-closeness, retuned-file, spent-alike}
 
 abbrev pub problemP : Problem
@@ -85,11 +90,11 @@ picksR = 0 ∷ 65534 ∷ []
 
 pub computed
     : (fileQuestions tiedLater ≡ passes) × (fileQuestions (penaltyP 100 0) ≡ passes) × (audit rounding valuesR picksR ≡ accepted 1000)
-unfolding fileQuestions layoutQuestions sectionQuestions endQuestion settingQuestions itemQuestions stateQuestion stateObeys startQuestion
-    rowNumberQuestion rowQuestion rowObeys costObeys outcomeNumberQuestion outcomeQuestion outcomesObey estimateQuestion undercutState
-    undercutRow first sumTo rowValue weightedSum totalWeight problemOf statesAt rowsAt outcomesAt fileEnd outcomesFrom rateSeconds
-    lengthSeconds secondsOn u16At u32At walk visitState visitOutcomes next leastCost leastTo pickCost
-    audit problemAudit tableQuestions unboundedState strayState slackState pickValue
+unfolding fileQuestionsWithin layoutQuestionsWithin sectionQuestions endQuestion settingQuestions itemQuestions stateQuestion
+    stateObeys startQuestion rowNumberQuestion rowQuestion rowObeys costObeys outcomeNumberQuestion outcomeQuestion outcomesObey
+    estimateQuestion undercutState undercutRow first sumTo rowValue weightedSum totalWeight problemOf statesAt rowsAt outcomesAt
+    fileEnd outcomesFrom rateSeconds lengthSeconds secondsOn u16At u32At walkWith visitState visitOutcomes next leastCostWith leastTo
+    pickCost auditWithin problemAuditWith tableQuestionsWith unboundedState strayState slackState pickValue
 computed = (refl, refl, refl)
 
 pub p-formed : WellFormed problemP
@@ -169,7 +174,7 @@ p-runs budget l = runs-the-rounds Plain fileP budget (lent 3) p-passes (p-lent b
 
 -- "Budget 0 is spent with the first state"
 pub p-spent : solution Plain fileP 0 (lent 3) .answer ≡ spent (counts 0 0 0)
-unfolding solutionOf goesOn runFrom machineStart
+unfolding solutionOfWith goesOnWith runFromWith machineStart
 p-spent = ap (λ a. a .answer) (p-runs 0 (omega arith))
 
 -- after as many rounds as its budget has
@@ -283,6 +288,74 @@ p-reads-back = encoded-reads-back (inSetForm problemP) p-encodable
 pub p-partner-audit : audit fileP valuesP picksP ≡ audit partnerP valuesP picksP
 p-partner-audit =
     equal-forms-audit fileP partnerP p-passes (forms-hold .1 .1 .1 .0) (forms-hold .0 ∙ sym (forms-hold .1 .0)) valuesP picksP
+
+-- Request E9: P is within the counts of document 01, so that `plan` prints of it what it did
+pub p-within : CountsWithin oldLimits fileP
+unfolding problemOf statesAt rowsAt outcomesAt u16At
+p-within = record { states = omega arith; rows = omega arith; outcomes = omega arith }
+
+pub p-stored-text
+    : planText problemP (solutionWithin oldLimits Plain fileP planRounds (planTables oldLimits (replicate 1024 0) (replicate 1024 0)))
+    ≡ planText problemP (planSolution Plain fileP (replicate maxStates 0) (replicate maxStates 0))
+p-stored-text =
+    stored-text fileP p-within Plain _ _ _ _ (le-of-eq (sym (length-replicate {A = ℕ} 1024 0)))
+    (le-of-eq (sym (length-replicate {A = ℕ} 1024 0))) (le-of-eq (sym (length-replicate {A = ℕ} maxStates 0)))
+    (le-of-eq (sym (length-replicate {A = ℕ} maxStates 0))) (omega arith)
+
+-- and a file of n states that all give up, having no rows: with 1,025 it passes, and an older reader meets it with 2 at section 1
+abbrev bare : ℕ → Problem
+bare n =
+    record {
+      start = 0;
+      tolerance = 1;
+      penalty = 1;
+      total = thousandths;
+      states = n;
+      rows = 0;
+      goal = λ s. false;
+      estimate = λ s. 0;
+      firstRow = λ s. 0;
+      rowCount = λ s. 0;
+      cost = λ r. 1;
+      outcomes = λ r. [];
+    }
+
+bare-encodable : (n : ℕ) → 1 ≤ n → n ≤ maxStates → Encodable (bare n)
+unfolding sumTo
+bare-encodable n low high =
+    record {
+      formed =
+          record {
+            start-state = omega arith;
+            start-open = refl;
+            tolerance-low = omega arith;
+            tolerance-high = omega arith;
+            penalty-low = omega arith;
+            penalty-high = omega arith;
+            total-known = refl;
+            states-high = high;
+            rows-high = omega arith;
+            rows-start = refl;
+            rows-follow = λ s. refl;
+            rows-end = refl;
+            goal-rows = λ s l g. refl;
+            goal-estimate = λ s l g. refl;
+            estimate-high = λ s l. omega arith;
+            cost-low = λ r l. absurd (omega arith);
+            cost-high = λ r l. absurd (omega arith);
+            successor-state = λ r l. absurd (omega arith);
+            weight-low = λ r l. absurd (omega arith);
+            weights = λ r l. absurd (omega arith);
+            estimate-under = λ s r l a b. absurd (omega arith);
+          };
+      outcomes-fit = omega arith;
+    }
+
+pub longer-met
+    : (fileQuestions (encode (bare 1025)) ≡ passes) × (fileQuestionsWithin oldLimits (encode (bare 1025)) ≡ fails 2 1)
+longer-met =
+    let said = encoded-reads-back (bare 1025) (bare-encodable 1025 (omega arith) (omega arith)) in
+    (said .0, older-reader (encode (bare 1025)) (said .0) ∙ rw (← said .1 .states) refl)
 
 -- P's form passes, has 3 settings, says the same problem, is no longer than P, and is its own form
 pub p-form

@@ -48,6 +48,7 @@ pub mod Solutions
 pub mod Finished
 pub mod Listings
 pub mod Beyond
+pub mod Lent
 -- Following a plan (E2)
 pub mod Occurs
 pub mod Follows
@@ -62,6 +63,8 @@ pub mod Standing
 pub mod Encodings
 pub mod Passing
 pub mod Forms
+-- Longer cores (E9)
+pub mod Longer
 -- The theorems, and that they speak of something
 pub mod Guarantee
 pub mod Instances

@@ -16,11 +16,11 @@ use Rattle.model.specs.Value.{byState, rowRemainder, pickRemainder}
 use Rattle.model.specs.Sections.{problemOf}
 use Rattle.model.specs.Walk.{In, here, there, walk, Reached}
 use Rattle.model.specs.Lines.{listed, runStates}
-use Rattle.model.specs.Rounds.{Machine, Ending, solved, spent, scanOf, backup, backups, walked, round}
+use Rattle.model.specs.Rounds.{Machine, Ending, solved, spent, scanOf, backup, backups, walked, round, roundWith}
 use Rattle.model.specs.Rounds.{machineStart, listTable}
 use Rattle.model.specs.declared.Counts.{Counts}
 use Rattle.model.specs.declared.Kind.{Kind}
-use Rattle.model.specs.Solution.{fine, Tables, Solution, solved as answer-solved, solutionOf, solution}
+use Rattle.model.specs.Solution.{fine, Tables, Solution, solved as answer-solved, solutionOf, solutionOfWith, solution}
 use Rattle.guarantee.specs.WellFormed.{WellFormed, well-formed}
 use Rattle.guarantee.specs.Values.{pickRemainder-give, pickRemainder-row}
 use Rattle.guarantee.specs.Searches.{or-right}
@@ -29,7 +29,8 @@ use Rattle.guarantee.specs.Rows.{row-no-mark}
 use Rattle.guarantee.specs.Graphs.{in-cons, in-nil, set-entry}
 use Rattle.guarantee.specs.Choosing.{OwnPick, landed-pick}
 use Rattle.guarantee.specs.Sound.{Sound, scan-landed, backup-sound}
-use Rattle.guarantee.specs.Backups.{Open, machineOf, backup-picks, walk-opens, round-list, walked-sound, round-sound, whole-run-keeps}
+use Rattle.guarantee.specs.Backups.{Open, machineOf, backup-picks, walk-opens, round-list, walked-sound, round-sound}
+use Rattle.guarantee.specs.Backups.{whole-run-keeps}
 use Rattle.guarantee.specs.Solutions.{Told, turned-down, ran, told, lent-sound, runWith, solved-by, solved-ends}
 
 abbrev Has : Problem → Machine → ℕ → Type 0
@@ -62,7 +63,7 @@ module _ (p : Problem) (formed : WellFormed p) (e : ℕ) where
       (λ has. inr (backup-has s m o sound j (inr has))) h)
 
   round-picked : (m : Machine) → Picked p m → Picked p (round p e m)
-  unfolding round
+  unfolding roundWith
   round-picked m h =
       let picks = byState (m .picks) in
       record {
@@ -146,7 +147,7 @@ module _ (kind : Kind) (f : List ℕ) (budget : ℕ) (t : Tables) where
   Lines x = (s : ℕ) → HasLine (problemOf f) x s → PickLine (problemOf f) (byState (x .tables .values)) s (getD (x .tables .picks) s 0)
 
   pub lines-pick : Lines (solution kind f budget t)
-  unfolding runStates solutionOf machineStart
+  unfolding runStates solutionOfWith machineStart
   lines-pick = go (told kind f budget t)
     where
       p : Problem

@@ -14,10 +14,11 @@ use Rattle.model.specs.Problem.{Problem, giveUpCost}
 use Rattle.model.specs.Search.{first, sumTo, oneOf}
 use Rattle.model.specs.Sections.{sectionEnd, statesAt, rowsAt, outcomesAt, fileEnd, goalByteOf, kindOf, outcomeCountOf}
 use Rattle.model.specs.Sections.{costNumberOf, problemOf}
-use Rattle.model.specs.Questions.{Verdict, passes, fails, _then_, ask, askEach, between, sectionQuestions, endQuestion, layoutQuestions}
+use Rattle.model.specs.Questions.{Verdict, passes, fails, _then_, ask, askEach, between, sectionQuestions, endQuestion}
+use Rattle.model.specs.Questions.{layoutQuestions, layoutQuestionsWithin}
 use Rattle.model.specs.Questions.{settingQuestions, stateObeys, stateQuestion, startQuestion, rowNumberQuestion, rowObeys, rowQuestion}
 use Rattle.model.specs.Questions.{outcomeNumberQuestion, rowSound, outcomeQuestion, undercutState, estimateQuestion, itemQuestions}
-use Rattle.model.specs.Questions.{fileQuestions}
+use Rattle.model.specs.Questions.{fileQuestions, fileQuestionsWithin}
 use Rattle.model.specs.Solution.{Tables, solveQuestions}
 
 -- a verdict that passes, or fails under a number of at most `last` or under 24, which belongs to 4
@@ -57,7 +58,7 @@ early-section place i size low high f =
     (early-ask 1 place (leb (sectionEnd size f i) (length f)) (omega arith)))
 
 early-layout : (f : List ℕ) → Early 11 (layoutQuestions f)
-unfolding layoutQuestions endQuestion
+unfolding layoutQuestionsWithin endQuestion
 early-layout f =
     early-then (early-section 0 0 4 minSettings maxSettings f)
     (early-then (early-section 1 (statesAt f) 6 1 maxStates f)
@@ -91,7 +92,7 @@ early-items f p =
 
 -- questions 1 to 11 in order
 pub early-file : (f : List ℕ) → Early 11 (fileQuestions f)
-unfolding fileQuestions
+unfolding fileQuestionsWithin
 early-file f = early-then (early-layout f) (early-then (early-settings (problemOf f)) (early-items f (problemOf f)))
 
 early-solve : (p : Problem) (budget : ℕ) (t : Tables) → Early 13 (solveQuestions p budget t)

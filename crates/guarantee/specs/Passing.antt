@@ -11,16 +11,18 @@ use Rattle.model.specs.Bytes.{u16At}
 use Rattle.model.specs.Encoding.{goalByte, outcomesTo, encode}
 use Rattle.model.specs.Limits.{minSettings, maxSettings, maxStates, maxRows, maxOutcomes, maxTolerance, maxPenalty, maxSeconds}
 use Rattle.model.specs.Problem.{Problem, Outcome, giveUpCost}
-use Rattle.model.specs.Questions.{passes, sectionQuestions, endQuestion, layoutQuestions, settingQuestions, stateObeys}
+use Rattle.model.specs.Questions.{passes, sectionQuestions, endQuestion, layoutQuestions, layoutQuestionsWithin, settingQuestions}
+use Rattle.model.specs.Questions.{stateObeys}
 use Rattle.model.specs.Questions.{stateQuestion, startQuestion, rowNumberQuestion, costObeys, rowObeys, rowQuestion}
 use Rattle.model.specs.Questions.{outcomeNumberQuestion, outcomesObey, rowSound, outcomeQuestion, undercutRow, undercutState}
-use Rattle.model.specs.Questions.{estimateQuestion, itemQuestions, fileQuestions}
+use Rattle.model.specs.Questions.{estimateQuestion, itemQuestions, fileQuestions, fileQuestionsWithin}
 use Rattle.model.specs.Sections.{sectionEnd, statesAt, rowsAt, outcomesAt, fileEnd, goalByteOf, kindOf, outcomeCountOf}
 use Rattle.model.specs.Sections.{costNumberOf, problemOf}
 use Rattle.model.specs.Value.{rowTicks, rowValue, weightedSum}
 use Rattle.model.specs.Walk.{In, here, there}
 use Rattle.guarantee.specs.Chances.{weight-high, some-outcome}
-use Rattle.guarantee.specs.Encodings.{Encodable, Says, encode-length, encode-reads, setting-number-low, setting-number-high, settings-count}
+use Rattle.guarantee.specs.Encodings.{Encodable, Says, encode-length, encode-reads, setting-number-low, setting-number-high}
+use Rattle.guarantee.specs.Encodings.{settings-count}
 use Rattle.guarantee.specs.Encodings.{states-place, states-count, rows-place, rows-count, outcomes-place, outcomes-count}
 use Rattle.guarantee.specs.Encodings.{state-read, row-read, first-row-read, first-outcome-read}
 use Rattle.guarantee.specs.Searches.{and-both, yes-between, yes-ask, yes-ask-each}
@@ -32,7 +34,7 @@ use Rattle.guarantee.specs.WellFormed.{WellFormed}
 
 -- what single questions ask
 
-section-passes
+pub section-passes
     : (place i size low high : ℕ) (f : List ℕ) → i + 2 ≤ length f → low ≤ u16At f i → u16At f i ≤ high
     → sectionEnd size f i ≤ length f → sectionQuestions place i size low high f ≡ passes
 unfolding sectionQuestions
@@ -84,7 +86,7 @@ module _ (p : Problem) (fits : Encodable p) where
   row-of r h = omega (arith, says .rows)
 
   layout-passes : layoutQuestions f ≡ passes
-  unfolding layoutQuestions endQuestion fileEnd
+  unfolding layoutQuestionsWithin endQuestion fileEnd
   layout-passes =
       let size = encode-length p in
       let settings = settings-count p fits in
@@ -188,7 +190,7 @@ module _ (p : Problem) (fits : Encodable p) where
       omega (arith, under, says .estimates s l, row-value-read r (omega arith)))
 
   pub encode-passes : fileQuestions f ≡ passes
-  unfolding fileQuestions itemQuestions
+  unfolding fileQuestionsWithin itemQuestions
   encode-passes =
       rw (layout-passes, settings-pass, states-pass, start-passes, row-numbers-pass, rows-pass, outcome-numbers-pass)
       (rw (outcomes-pass, estimates-pass) refl)

@@ -15,16 +15,14 @@ use borrow.Author.Tests.{le-leb, ne-eqb}
 use Rattle.model.specs.Buffers.{ReadOf}
 use Rattle.model.specs.Bytes.{u16At}
 use Rattle.model.specs.Limits.{minSettings, maxSettings, maxStates, maxRows, maxOutcomes}
-use Rattle.model.specs.Lines.{planText, stateLines, runStates}
 use Rattle.model.specs.Problem.{Problem}
 use Rattle.model.specs.Sections.{problemOf, sectionEnd, statesAt, rowsAt, outcomesAt, fileEnd}
 use Rattle.model.specs.TableFiles.{entries16, entries32}
 use Rattle.model.specs.Value.{byState}
 use Rattle.model.specs.Questions.{Verdict, passes, fails, _then_, ask, between, sectionQuestions, endQuestion, layoutQuestions}
-use Rattle.model.specs.Questions.{fileQuestions}
-use Rattle.model.specs.declared.Kind.{Kind}
-use Rattle.model.specs.Solution.{Tables, solution, solutionOn}
-use Rattle.model.specs.Audit.{refused, orElse, problemAudit, audit, auditOn}
+use Rattle.model.specs.Questions.{layoutQuestionsWithin}
+use Rattle.model.specs.Questions.{fileQuestions, fileQuestionsWithin}
+use Rattle.model.specs.Audit.{refused, orElse, problemAudit, problemAuditWith, audit, auditWithin, auditOn}
 use Rattle.guarantee.specs.WellFormed.{WellFormed, section-there, between-high, well-formed, sectioned}
 use Rattle.guarantee.specs.Agreeing.{tables-same}
 use Rattle.guarantee.specs.ReadsBack.{u16-front, entries16-front, entries32-front}
@@ -77,7 +75,7 @@ module _ (N : ℕ) (f : List ℕ) (long : N ≤ length f) where
   section-end size i h = rw (u16-front N f i h) refl
 
   layout-front : longestFile < N → layoutQuestions (take N f) ≡ layoutQuestions f
-  unfolding layoutQuestions endQuestion statesAt rowsAt outcomesAt fileEnd
+  unfolding layoutQuestionsWithin endQuestion statesAt rowsAt outcomesAt fileEnd
   layout-front h =
       let a = sectionEnd 4 f 0 in
       let b = sectionEnd 6 f a in
@@ -119,61 +117,14 @@ front N f h = go (decLe (length f) N)
     go (yes l) = whole (take-all N f l)
     go (no l) = asked (omega arith) (layoutQuestions f) refl
 
-module _ (N : ℕ) (f : List ℕ) (h : longestFile < N) where
-  -- the front has the verdict of the whole file
-  pub questions-front : fileQuestions (take N f) ≡ fileQuestions f
-  unfolding fileQuestions
-  questions-front = go (front N f h)
-    where
-      go : Front N f → fileQuestions (take N f) ≡ fileQuestions f
-      go (whole e) = ap fileQuestions e
-      go (cut q i e e′) = rw (e, e′) refl
-
-  -- and its solution
-  pub solution-front : (kind : Kind) (budget : ℕ) (t : Tables) → solution kind (take N f) budget t ≡ solution kind f budget t
-  unfolding solution solutionOn fileQuestions
-  solution-front kind budget t = go (front N f h)
-    where
-      go : Front N f → solution kind (take N f) budget t ≡ solution kind f budget t
-      go (whole e) = ap (λ g. solution kind g budget t) e
-      go (cut q i e e′) = rw (e, e′) refl
-
-  -- and what `plan` prints of it
-  pub plan-front
-      : (kind : Kind) (budget : ℕ) (t : Tables)
-      → planText (problemOf (take N f)) (solution kind (take N f) budget t) ≡ planText (problemOf f) (solution kind f budget t)
-  unfolding planText stateLines runStates solution solutionOn fileQuestions
-  plan-front kind budget t = go (front N f h)
-    where
-      go
-          : Front N f
-          → planText (problemOf (take N f)) (solution kind (take N f) budget t) ≡ planText (problemOf f) (solution kind f budget t)
-      go (whole e) = ap (λ g. planText (problemOf g) (solution kind g budget t)) e
-      go (cut q i e e′) = rw (e, e′) refl
-
-  -- and as many states
-  pub states-front
-      : (kind : Kind) (budget : ℕ) (t : Tables)
-      → runStates (solution kind (take N f) budget t .answer) (problemOf (take N f) .states)
-      ≡ runStates (solution kind f budget t .answer) (problemOf f .states)
-  unfolding runStates solution solutionOn fileQuestions
-  states-front kind budget t = go (front N f h)
-    where
-      go
-          : Front N f
-          → runStates (solution kind (take N f) budget t .answer) (problemOf (take N f) .states)
-          ≡ runStates (solution kind f budget t .answer) (problemOf f .states)
-      go (whole e) = ap (λ g. runStates (solution kind g budget t .answer) (problemOf g .states)) e
-      go (cut q i e e′) = rw (e, e′) refl
-
-  -- and its audit
-  pub audit-front : (values picks : List ℕ) → audit (take N f) values picks ≡ audit f values picks
-  unfolding audit fileQuestions
-  audit-front values picks = go (front N f h)
-    where
-      go : Front N f → audit (take N f) values picks ≡ audit f values picks
-      go (whole e) = ap (λ g. audit g values picks) e
-      go (cut q i e e′) = rw (e, e′) refl
+-- the front has the audit of the whole file
+pub audit-front : (N : ℕ) (f : List ℕ) → longestFile < N → (values picks : List ℕ) → audit (take N f) values picks ≡ audit f values picks
+unfolding auditWithin fileQuestionsWithin
+audit-front N f h values picks = go (front N f h)
+  where
+    go : Front N f → audit (take N f) values picks ≡ audit f values picks
+    go (whole e) = ap (λ g. audit g values picks) e
+    go (cut q i e e′) = rw (e, e′) refl
 
 -- a front that is long enough for the states is as long as is asked
 front-long : (N n : ℕ) (l : List ℕ) → n ≤ N → leb n (length (take N l)) ≡ leb n (length l)
@@ -186,7 +137,7 @@ front-long N n l h = go (decLe (length l) N)
 problem-front
     : (N : ℕ) (p : Problem) → WellFormed p → (values picks : List ℕ) → maxStates ≤ N
     → problemAudit p (take N values) (take N picks) ≡ problemAudit p values picks
-unfolding problemAudit
+unfolding problemAuditWith
 problem-front N p formed values picks h =
     let low : p .states ≤ N = omega (arith, formed .states-high) in
     rw (front-long N (p .states) values low, front-long N (p .states) picks low)
@@ -198,7 +149,7 @@ problem-front N p formed values picks h =
 -- the audit reads the entries of states alone
 pub audit-tables-front
     : (N : ℕ) (f values picks : List ℕ) → maxStates ≤ N → audit f (take N values) (take N picks) ≡ audit f values picks
-unfolding audit
+unfolding auditWithin
 audit-tables-front N f values picks h = go (fileQuestions f) refl
   where
     go : (v : Verdict) → fileQuestions f ≡ v → auditOn v (problemOf f) (take N values) (take N picks) ≡ auditOn v (problemOf f) values picks

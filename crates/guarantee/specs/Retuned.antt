@@ -18,10 +18,11 @@ use Rattle.model.specs.Sections.{statesAt, rowsAt, outcomesAt, fileEnd, setting
 use Rattle.model.specs.Sections.{outcomeCountOf, costNumberOf, secondsOn, outcomeAt, outcomesFrom, atTolerance, problemOf}
 use Rattle.model.specs.Value.{byState, rowValue}
 use Rattle.model.specs.Questions.{Verdict, passes, _then_, ask, askEach, between, sectionQuestions, endQuestion}
-use Rattle.model.specs.Questions.{layoutQuestions, settingQuestions, stateObeys, stateQuestion, startQuestion}
+use Rattle.model.specs.Questions.{layoutQuestions, layoutQuestionsWithin, settingQuestions, stateObeys, stateQuestion, startQuestion}
 use Rattle.model.specs.Questions.{rowNumberQuestion, rowObeys, rowQuestion, outcomeNumberQuestion, outcomeQuestion}
-use Rattle.model.specs.Questions.{undercutRow, undercutState, estimateQuestion, itemQuestions, fileQuestions}
-use Rattle.model.specs.Walk.{Trail, nextOn, next, visitState, walk, pickCostOn, pickCost, leastOn, leastTo, leastCost}
+use Rattle.model.specs.Questions.{undercutRow, undercutState, estimateQuestion, itemQuestions, fileQuestions, fileQuestionsWithin}
+use Rattle.model.specs.Walk.{Trail, nextOn, next, visitState, walk, walkWith, pickCostOn, pickCost, leastOn, leastTo, leastCost}
+use Rattle.model.specs.Walk.{leastCostWith}
 use Rattle.model.specs.Audit.{accepted, pickValueOn, pickValue, open-state, audit}
 use Rattle.guarantee.specs.WellFormed.{laid, well-formed}
 use Rattle.guarantee.specs.Searches.{then-first, then-next, yes-between}
@@ -59,7 +60,7 @@ module _ (e : ℕ) (p : Problem) (picks : ℕ → ℕ) where
       [ true ↦ refl | false ↦ refl ]
 
   walk-retuned : walk q picks ≡ walk p picks
-  unfolding walk
+  unfolding walkWith
   walk-retuned =
       let clear : Trail = record { marks = replicate maxStates 0; list = [] } in
       λ i. visitState (p .goal) (λ s. next-retuned s i) maxStates (p .start) clear
@@ -82,7 +83,7 @@ module _ (e : ℕ) (p : Problem) (picks : ℕ → ℕ) where
   least-to-retuned marks (suc k) = ap₂ (leastOn (open-state p marks k)) (cost-retuned k) (least-to-retuned marks k)
 
   least-retuned : leastCost q picks ≡ leastCost p picks
-  unfolding leastCost
+  unfolding leastCostWith
   least-retuned =
       ap (λ w. leastTo q picks (w .marks) (p .states)) walk-retuned ∙ least-to-retuned (walk p picks .marks) (p .states)
 
@@ -233,7 +234,7 @@ module _ (f : List ℕ) (e : ℕ) (low : 1 ≤ e) (high : e ≤ maxTolerance) (f
   -- questions 1 to 3 read places, counts and the length; 4 reads the tolerance; 5 to 11 read nothing that changed
 
   layout-same : layoutQuestions g ≡ layoutQuestions f
-  unfolding layoutQuestions sectionQuestions endQuestion fileEnd
+  unfolding layoutQuestionsWithin sectionQuestions endQuestion fileEnd
   layout-same =
       λ i.
       asked 0 4 minSettings maxSettings 0 (count-same i) (length-same i)
@@ -263,7 +264,7 @@ module _ (f : List ℕ) (e : ℕ) (low : 1 ≤ e) (high : e ≤ maxTolerance) (f
       then estimateQuestion p
 
   pub retuned-passes : fileQuestions (atTolerance e f) ≡ passes
-  unfolding fileQuestions
+  unfolding fileQuestionsWithin
   retuned-passes =
       let later = settingQuestions p then itemQuestions f p in
       let items = then-next (settingQuestions p) (itemQuestions f p) (then-next (layoutQuestions f) later file) in

@@ -16,7 +16,7 @@ use Rattle.model.specs.Search.{sumTo}
 use Rattle.model.specs.Value.{byState, rowValue, weightedSum}
 use Rattle.model.specs.Sections.{statesAt, rowsAt, outcomesAt, outcomesFrom, lengthSeconds, rateSeconds, secondsOn, problemOf}
 use Rattle.model.specs.Questions.{passes}
-use Rattle.model.specs.Walk.{In, Reached, at-start, visitOutcomes, visitState, next, walk, pickCost, leastCost}
+use Rattle.model.specs.Walk.{In, Reached, at-start, visitOutcomes, visitState, next, walk, walkWith, pickCost, leastCost}
 use Rattle.model.specs.Rounds.{Machine, fillTo, machineStart, walked, scanOf, bellman, beats, evaluateOn, considerOn, consider}
 use Rattle.model.specs.Rounds.{takenIf, othersFrom, traverse, raiseOn, settle, backup, runFrom}
 use Rattle.model.specs.Carried.{counts}
@@ -38,7 +38,7 @@ abbrev pub firstP : Machine
 firstP = walked problemP (machineStart problemP (lent 3 .values) (lent 3 .picks) (lent 3 .remembered))
 
 pub p-met : Met problemP (lent 3) (0 ∷ []) firstP
-unfolding walk visitState visitOutcomes next machineStart fillTo problemOf statesAt rowsAt sumTo u16At u32At
+unfolding walkWith visitState visitOutcomes next machineStart fillTo problemOf statesAt rowsAt sumTo u16At u32At
 p-met = walks starts
 
 -- and a run with another tolerance, as E8's second part has it, ends at a machine that is met
@@ -108,13 +108,13 @@ secondCheap =
     walked p (backup p (p .tolerance) 0 (walked p (machineStart p (lent 3 .values) (lent 3 .picks) (lent 3 .remembered))))
 
 pub cheap-met : Met (problemOf (penaltyP 100 0)) (lent 3) (1 ∷ 0 ∷ []) secondCheap
-unfolding walk visitState visitOutcomes next machineStart fillTo backup settle raiseOn traverse othersFrom takenIf consider considerOn
+unfolding walkWith visitState visitOutcomes next machineStart fillTo backup settle raiseOn traverse othersFrom takenIf consider considerOn
     beats evaluateOn problemOf statesAt rowsAt outcomesAt outcomesFrom secondsOn rateSeconds lengthSeconds sumTo u16At u32At rowValue
     weightedSum
 cheap-met = walks (backs-up (problemOf (penaltyP 100 0) .tolerance) {s = 0} {rest = []} (walks starts))
 
 pub cheap-gives-up : giveUpCost (problemOf (penaltyP 100 0)) < rowValue (problemOf (penaltyP 100 0)) (byState (secondCheap .values)) 2
-unfolding walk visitState visitOutcomes next machineStart fillTo backup settle raiseOn traverse othersFrom takenIf consider considerOn
+unfolding walkWith visitState visitOutcomes next machineStart fillTo backup settle raiseOn traverse othersFrom takenIf consider considerOn
     beats evaluateOn solveQuestions problemOf statesAt rowsAt outcomesAt outcomesFrom secondsOn rateSeconds lengthSeconds sumTo u16At u32At
     rowValue weightedSum
 cheap-gives-up =
@@ -125,7 +125,7 @@ abbrev pub firstTied : Machine
 firstTied = walked (problemOf tied) (machineStart (problemOf tied) (lent 2 .values) (lent 2 .picks) (lent 2 .remembered))
 
 pub tied-met : Met (problemOf tied) (lent 2) (0 ∷ []) firstTied
-unfolding walk visitState visitOutcomes next machineStart fillTo problemOf statesAt rowsAt sumTo u16At u32At
+unfolding walkWith visitState visitOutcomes next machineStart fillTo problemOf statesAt rowsAt sumTo u16At u32At
 tied-met = walks starts
 
 pub tied-lent : solveQuestions (problemOf tied) planRounds (lent 2) ≡ passes
@@ -146,7 +146,7 @@ abbrev pub secondTied : Machine
 secondTied = walked (problemOf tied) (backup (problemOf tied) (problemOf tied .tolerance) 0 firstTied)
 
 pub tied-again : scanOf (problemOf tied) 0 secondTied .pick ≡ 0
-unfolding walk visitState visitOutcomes next machineStart fillTo backup settle raiseOn traverse othersFrom takenIf consider considerOn
+unfolding walkWith visitState visitOutcomes next machineStart fillTo backup settle raiseOn traverse othersFrom takenIf consider considerOn
     beats evaluateOn problemOf statesAt rowsAt outcomesAt outcomesFrom secondsOn sumTo u16At u32At rowValue weightedSum
 tied-again =
     earlier-pick-wins tied planRounds (lent 2) (requested-hold .1 .1 .1 .1 .1 .1 .1 .0) tied-lent
@@ -157,7 +157,7 @@ abbrev pub firstLater : Machine
 firstLater = walked (problemOf tiedLater) (machineStart (problemOf tiedLater) (lent 3 .values) (lent 3 .picks) (lent 3 .remembered))
 
 pub later-met : Met (problemOf tiedLater) (lent 3) (0 ∷ []) firstLater
-unfolding walk visitState visitOutcomes next machineStart fillTo problemOf statesAt rowsAt sumTo u16At u32At
+unfolding walkWith visitState visitOutcomes next machineStart fillTo problemOf statesAt rowsAt sumTo u16At u32At
 later-met = walks starts
 
 later-picks : (scanOf (problemOf tiedLater) 0 firstLater .pick ≡ 1) × (getD (firstLater .picks) 0 0 ≡ noPick)
@@ -184,7 +184,7 @@ unfolding problemOf statesAt u16At u32At
 p-listed = list-is-open-reached fileP (byState picksP) p-passes 0 .1 (at-start, refl)
 
 pub p-once : _≡_ {A = ℕ} 1 1
-unfolding walk visitState visitOutcomes next problemOf statesAt rowsAt outcomesAt outcomesFrom sumTo u16At u32At
+unfolding walkWith visitState visitOutcomes next problemOf statesAt rowsAt outcomesAt outcomesFrom sumTo u16At u32At
 p-once = list-holds-once fileP (byState picksP) p-passes 1 1 (leb-true _ _ refl) (leb-true _ _ refl) refl
 
 pub p-least : leastCost problemP (byState picksP) ≤ pickCost problemP (byState picksP) 0

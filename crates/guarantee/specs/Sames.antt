@@ -11,7 +11,7 @@ use lib.ListN.{getD, length}
 use Rattle.model.specs.Problem.{Problem, ownRow}
 use Rattle.model.specs.Value.{weightedSum, rowValue, rowRemainder, byState}
 use Rattle.model.specs.Walk.{In, nextOn, next, walk, Reached, at-start, along}
-use Rattle.model.specs.Audit.{refused, orElse, problemAudit}
+use Rattle.model.specs.Audit.{refused, orElse, problemAudit, problemAuditWith}
 use Rattle.model.specs.SetForm.{Same, chance}
 use Rattle.guarantee.specs.WellFormed.{WellFormed}
 use Rattle.guarantee.specs.Graphs.{in-nil}
@@ -149,7 +149,7 @@ module _ (p q : Problem) (formed : WellFormed p) (formed′ : WellFormed q) (sam
       }
 
   pub same-audits : (values picks : List ℕ) → problemAudit p values picks ≡ problemAudit q values picks
-  unfolding problemAudit
+  unfolding problemAuditWith
   same-audits values picks =
       ap₂
       (λ n said. orElse (leb n (length values)) (refused 15 0 (pos 0))

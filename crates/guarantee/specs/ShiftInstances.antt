@@ -18,7 +18,7 @@ use Rattle.model.specs.Sections.{statesAt, rowsAt, outcomesAt, outcomesFrom, se
 use Rattle.model.specs.Walk.{Reached, successors}
 use Rattle.model.specs.Audit.{accepted, audit}
 use Rattle.model.specs.Following.{leadsTo, moveSeconds, wayTo, waySeconds, hasOutcome, reportQuestions, done}
-use Rattle.model.specs.Following.{refused as report-refused, Report, opening, moved, report, reports}
+use Rattle.model.specs.Following.{refused as report-refused, Report, opening, moved, report, reportWithin, reports}
 use Rattle.model.specs.declared.Follower.{Follower}
 use Rattle.guarantee.specs.Guarantee.{audit-asked-first, opens-at-start, opens-on-accepted, refused-opening, refused-report}
 use Rattle.guarantee.specs.Guarantee.{giving-up-report, row-report, after, taken, follows-state, follows-moves}
@@ -148,8 +148,8 @@ unfolding problemOf u16At u32At
 r-opened = opens-at-start rounding valuesR picksR 1000 r-accepted (at 7 7 7 7)
 
 r-goes-on : (m : ℕ) → m < maxMoves → report rounding valuesR picksR (at 0 m m 0) 0 ≡ record { answer = done; left = at 0 (m + 1) (m + 1) 0 }
-unfolding report reportQuestions moved leadsTo moveSeconds hasOutcome problemOf statesAt rowsAt outcomesAt outcomesFrom secondsOn sumTo
-    u16At u32At
+unfolding reportWithin reportQuestions moved leadsTo moveSeconds hasOutcome problemOf statesAt rowsAt outcomesAt outcomesFrom secondsOn
+    sumTo u16At u32At
 r-goes-on m few = rw (r-accepted, lt-ltb m maxMoves few, le-leb m maxSpent (omega (arith, few))) refl
 
 pub r-keeps-on
@@ -184,7 +184,7 @@ r-million =
     ∙ r-keeps-on maxMoves 0 (omega arith)
 
 pub r-refused : report rounding valuesR picksR afterMillion 0 .answer ≡ report-refused 21 0 (pos 0)
-unfolding report reportQuestions problemOf statesAt u16At
+unfolding reportWithin reportQuestions problemOf statesAt u16At
 r-refused = rw (r-million, r-accepted) refl
 
 pub r-moves : afterMillion .moves ≡ maxMoves

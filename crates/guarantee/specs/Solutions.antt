@@ -1,34 +1,37 @@
 -- Solving a file, told by its answer and the tables that are left: refusals leave the tables as lent, number 14 never comes, solved is
 -- accepted. With questions 1 to 13 answered yes the machine is sound from the start, so the checked run is the run of Rounds.antt.
 use mathlib.Core.Path.{_≡_, refl, sym, _∙_, ap}
-use Prim.Native.Nat.{ℕ, _≤_, _<_}
+use Prim.Native.Nat.{ℕ, _*_, _≤_, _<_}
+use native.Mathlib.Nat.{le-trans}
 use native.Mathlib.Omega.{arith}
 use mathlib.Core.Bool.{true, false, true≢false}
 use mathlib.Core.List.{List}
 use lib.Dec.{leb}
-use lib.ListN.{length}
+use lib.ListN.{length, length-replicate}
 use borrow.Author.Tests.{leb-true, le-leb}
-use Rattle.model.specs.Limits.{maxBudget, giveUp}
+use Rattle.model.specs.Limits.{Limits, maxRows, maxBudget, planRounds, valueBound, giveUp, listEnd}
 use Rattle.model.specs.Problem.{Problem, giveUpCost, ownRow}
 use Rattle.model.specs.Value.{rowValue, byState}
 use Rattle.model.specs.Sections.{problemOf}
 use Rattle.model.specs.Questions.{Verdict, passes, fails, _then_, ask}
 use Rattle.model.specs.Questions.{fileQuestions}
 use Rattle.model.specs.Walk.{Reached, leastCost}
-use Rattle.model.specs.Rounds.{Machine, Ending, machineStart, goesOn, runOf}
+use Rattle.model.specs.Rounds.{Machine, Ending, machineStart, goesOn, goesOnWith, runOf}
 use Rattle.model.specs.Carried.{counts}
 use Rattle.model.specs.declared.Counts.{Counts}
 use Rattle.model.specs.declared.Kind.{Kind}
 use Rattle.model.specs.declared.Kind.the-variants.{Plain, Finishing}
-use Rattle.model.specs.Solution.{fine, Tables, Answer, solved, spent, refused, tablesOf, solutionOf}
-use Rattle.model.specs.Solution.{solveQuestions, solutionOn, solution}
+use Rattle.model.specs.Solution.{fine, Tables, Answer, solved, spent, refused, tablesOf, solutionOf, solutionOfWith}
+use Rattle.model.specs.Solution.{solveQuestions, solutionOnWith, solution, solutionWithin}
+use Rattle.model.specs.Answers.{answerCarries}
 use Rattle.model.specs.Audit.{accepted, audit}
-use Rattle.model.specs.Promises.{roundsEnough}
+use Rattle.model.specs.Promises.{roundsEnough, planTables}
 use Rattle.guarantee.specs.Searches.{then-first, then-next, ask-yes}
 use Rattle.guarantee.specs.Numbers.{early-questions, early-number}
 use Rattle.guarantee.specs.WellFormed.{well-formed}
 use Rattle.guarantee.specs.Sound.{Sound, start-sound}
-use Rattle.guarantee.specs.Backups.{whole-run-spent}
+use Rattle.guarantee.specs.Backups.{roundsOf, machineOf, whole-run-keeps, whole-run-rounds, whole-run-spent}
+use Rattle.guarantee.specs.Evaluations.{round-count}
 use Rattle.guarantee.specs.Checks.{checked-run-of}
 use Rattle.guarantee.specs.Ending.{solve-ends}
 use Rattle.guarantee.specs.Solved.{Final, lastTolerance, last-narrow, run-final, final-passes-audit, final-gives-up}
@@ -111,6 +114,20 @@ lent-passes p budget t h =
     )
     refl
 
+-- the tables that `plan` lends have room for every problem within the limits that they are made for, and so many rounds may be asked for
+pub plan-lent
+    : (L : Limits) (p : Problem) (values picks : List ℕ) → p .states ≤ L .states → p .rows ≤ L .rows → L .states ≤ length values
+    → L .states ≤ length picks → solveQuestions p planRounds (planTables L values picks) ≡ passes
+plan-lent L p values picks states rows v k =
+    lent-passes p planRounds _
+    record {
+      values-long = le-trans states v;
+      picks-long = le-trans states k;
+      remembered-long = omega (arith, length-replicate {A = ℕ} (L .rows) 0);
+      list-long = omega (arith, length-replicate {A = ℕ} (L .states) listEnd);
+      budget-high = omega arith;
+    }
+
 -- With questions 1 to 13 answered yes.
 module _ (f : List ℕ) (budget : ℕ) (t : Tables) (file : fileQuestions f ≡ passes)
     (lent : solveQuestions (problemOf f) budget t ≡ passes) where
@@ -122,7 +139,7 @@ module _ (f : List ℕ) (budget : ℕ) (t : Tables) (file : fileQuestions f ≡ 
 
   -- the solution is that of the run with no check
   pub solution-run : (kind : Kind) → solution kind f budget t ≡ solutionOf (problemOf f) (t .walk-list) (fine (runWith kind f budget t))
-  unfolding solution solutionOn
+  unfolding solutionWithin solutionOnWith
   solution-run kind =
       let p = problemOf f in
       rw (file, lent)
@@ -133,7 +150,7 @@ module _ (f : List ℕ) (budget : ℕ) (t : Tables) (file : fileQuestions f ≡ 
   pub solution-ends
       : (kind : Kind) → roundsEnough kind (problemOf f) ≤ budget
       → SolvedWithin (roundsEnough kind (problemOf f)) (solution kind f budget t .answer)
-  unfolding solutionOf
+  unfolding solutionOfWith
   solution-ends kind room =
       let p = problemOf f in
       let long = lent-long p budget t lent in
@@ -149,7 +166,7 @@ module _ (f : List ℕ) (budget : ℕ) (t : Tables) (file : fileQuestions f ≡ 
 pub solution-refused
     : (kind : Kind) (f : List ℕ) (budget : ℕ) (t : Tables) (q i : ℕ) → questions f budget t ≡ fails q i
     → solution kind f budget t ≡ record { answer = refused q i; tables = t }
-unfolding solution solutionOn
+unfolding solutionWithin solutionOnWith
 solution-refused kind f budget t q i failed = rw failed refl
 
 module _ (kind : Kind) (f : List ℕ) (budget : ℕ) (t : Tables) where
@@ -165,7 +182,7 @@ module _ (kind : Kind) (f : List ℕ) (budget : ℕ) (t : Tables) where
 
   -- a refusal is that of the first of questions 1 to 13 that fails, and leaves every table as lent
   pub refused-by : (q i : ℕ) → solution kind f budget t .answer ≡ refused q i → RefusedBy kind f budget t q i
-  unfolding solutionOf
+  unfolding solutionOfWith
   refused-by q i h = go told
     where
       on : (run : Ending) → runWith kind f budget t ≡ run → solutionOf (problemOf f) (t .walk-list) (fine run) .answer ≡ refused q i
@@ -181,7 +198,7 @@ module _ (kind : Kind) (f : List ℕ) (budget : ℕ) (t : Tables) where
 
   -- an answer "solved" comes from a run that ends solved
   pub solved-by : (c : Counts) → solution kind f budget t .answer ≡ solved c → SolvedBy kind f budget t c
-  unfolding solutionOf
+  unfolding solutionOfWith
   solved-by c h = go told
     where
       on : fileQuestions f ≡ passes → solveQuestions (problemOf f) budget t ≡ passes → (run : Ending) → runWith kind f budget t ≡ run
@@ -211,7 +228,7 @@ module _ (kind : Kind) (f : List ℕ) (budget : ℕ) (t : Tables) where
 
   -- an answer "spent" comes from a run that has done every round of its budget
   pub spent-budget : (c : Counts) → solution kind f budget t .answer ≡ spent c → c .rounds ≡ budget
-  unfolding solutionOf
+  unfolding solutionOfWith
   spent-budget c h = go told
     where
       on : (run : Ending) → runWith kind f budget t ≡ run → solutionOf (problemOf f) (t .walk-list) (fine run) .answer ≡ spent c
@@ -227,6 +244,34 @@ module _ (kind : Kind) (f : List ℕ) (budget : ℕ) (t : Tables) where
           let never : refused q i ≡ spent c = sym (ap (λ x. x .answer) is) ∙ h in
           absurd (true≢false (cc))
       go (ran file lent is) = on (runWith kind f budget t) refl (rw is at h)
+
+  -- a round counts at most the file's rows, so evaluations fit in 64 bits
+  pub evaluations-few : answerCarries (solution kind f budget t .answer) .counts .evaluations < valueBound * valueBound
+  unfolding solutionOfWith machineStart
+  evaluations-few = go told
+    where
+      p : Problem
+      p = problemOf f
+
+      Few : ℕ → Machine → Type 0
+      Few n m = m .evaluations ≤ maxRows * n
+
+      on : (run : Ending) → Few (roundsOf run) (machineOf run) → roundsOf run ≤ maxBudget
+          → answerCarries (solutionOf p (t .walk-list) (fine run) .answer) .counts .evaluations < valueBound * valueBound
+      on (Ending.solved n m) few h = omega arith
+      on (Ending.spent n m) few h = omega arith
+
+      go : Told kind f budget t → answerCarries (solution kind f budget t .answer) .counts .evaluations < valueBound * valueBound
+      go (turned-down q i failed is) = rw is (omega arith)
+      go (ran file lent is) =
+          let formed = well-formed f file in
+          let few =
+          whole-run-keeps p Few (λ e n m h. omega (arith, h, round-count p e formed m .no-more, formed .rows-high)) kind budget
+          (t .values) (t .picks) (t .remembered) (omega arith) in
+          rw is
+          (on (runWith kind f budget t) few
+          (le-trans (whole-run-rounds kind p budget (t .values) (t .picks) (t .remembered))
+          (lent-long p budget t lent .budget-high)))
 
   -- number 14 never comes
   pub never-fourteen : (r : ℕ) → solution kind f budget t .answer ≡ refused 14 r → ⊥
@@ -261,7 +306,7 @@ module _ (kind : Kind) (f : List ℕ) (budget : ℕ) (t : Tables) where
 pub spent-the-same
     : (f : List ℕ) (budget : ℕ) (t : Tables) (c : Counts) → solution Plain f budget t .answer ≡ spent c
     → solution Finishing f budget t ≡ solution Plain f budget t
-unfolding solutionOf goesOn
+unfolding solutionOfWith goesOnWith
 spent-the-same f budget t c h = go (told Plain f budget t)
   where
     on : (run : Ending) → solutionOf (problemOf f) (t .walk-list) (fine run) .answer ≡ spent c

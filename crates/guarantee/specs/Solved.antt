@@ -15,8 +15,9 @@ use Rattle.model.specs.Value.{rowValue, byState}
 use Rattle.model.specs.Walk.{In, here, there, walk, Reached, leastCost}
 use Rattle.model.specs.Sections.{problemOf}
 use Rattle.model.specs.Questions.{passes, fileQuestions}
-use Rattle.model.specs.Rounds.{Machine, scanOf, backup, backups, walked, round, runFrom, Ending, solved, spent, Chosen, choice}
-use Rattle.model.specs.Rounds.{machineStart, goesOn, runOf}
+use Rattle.model.specs.Rounds.{Machine, scanOf, backup, backups, walked, round, roundWith, runFrom, Ending, solved, spent, Chosen}
+use Rattle.model.specs.Rounds.{choice}
+use Rattle.model.specs.Rounds.{machineStart, goesOn, goesOnWith, runOf}
 use Rattle.model.specs.declared.Kind.{Kind}
 use Rattle.model.specs.declared.Kind.the-variants.{Plain, Finishing}
 use Rattle.model.specs.Audit.{accepted, pickValue, audit}
@@ -82,7 +83,7 @@ module _ (p : Problem) (formed : WellFormed p) (e : ℕ) where
   -- a quiet round: values and picks stay, and every listed state rests
   pub round-still
       : (m : Machine) → Sound p m → round p e m .moved ≡ false → Still p e (walk p (byState (m .picks)) .list) (walked p m) (round p e m)
-  unfolding round
+  unfolding roundWith
   round-still m sound quiet =
       let picks = byState (m .picks) in
       backups-still (walk p picks .list) (walked p m) (walk-opens p formed picks) (walked-sound p formed e m sound) quiet
@@ -171,7 +172,7 @@ pub run-final
     : (kind : Kind) (p : Problem) → WellFormed p → (budget : ℕ) (values picks remembered : List ℕ) (k : ℕ) (m : Machine)
     → Sound p (machineStart p values picks remembered) → runOf kind p budget values picks remembered ≡ solved k m
     → Final p (lastTolerance kind p) m
-unfolding goesOn
+unfolding goesOnWith
 run-final kind p formed budget values picks remembered k m sound q = go kind (runFrom p e budget true 0 start) refl q
   where
     e : ℕ

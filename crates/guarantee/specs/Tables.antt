@@ -6,11 +6,11 @@ use native.Mathlib.Decide.{ℕ-discrete, decLt}
 use native.Mathlib.Numerals.{add-one}
 use native.Mathlib.Omega.{arith}
 use mathlib.Core.Bool.{Bool, true, _&&_}
-use mathlib.Core.List.{List, [], _∷_}
+use mathlib.Core.List.{List, [], _∷_, _++_}
 use borrow.Author.Tests.{eqb-true}
 use lib.Dec.{eqb}
-use lib.ListN.{getD, set, length, drop, length-set}
-use lib.Seq.{getD-set-same, getD-set-other, set-out, drop-drop}
+use lib.ListN.{getD, set, length, take, drop, length-set}
+use lib.Seq.{getD-set-same, getD-set-other, set-out, drop-drop, getD-take, take-suc-set}
 use Rattle.model.specs.Rounds.{fillTo}
 use Rattle.guarantee.specs.Searches.{and-left, and-right}
 
@@ -47,6 +47,20 @@ fill-entry g l (suc k) j long h = go (ℕ-discrete j k) (λ b. fill-entry g l k 
 pub fill-next : (g : ℕ → ℕ) (l : List ℕ) (k : ℕ) → fillTo g l (k + 1) ≡ set (fillTo g l k) k (g k)
 unfolding fillTo
 fill-next g l k = rw add-one
+
+-- where the first n entries are the same, each of them is
+pub front-entry : (n : ℕ) (l l′ : List ℕ) → take n l ≡ take n l′ → (i : ℕ) → i < n → getD l i 0 ≡ getD l′ i 0
+front-entry n l l′ e i h = sym (getD-take n l i 0 h) ∙ ap (λ a. getD a i 0) e ∙ getD-take n l′ i 0 h
+
+-- what is filled is the same in all tables that are long enough
+pub fill-front
+    : (g : ℕ → ℕ) (l l′ : List ℕ) (k : ℕ) → k ≤ length l → k ≤ length l′ → take k (fillTo g l k) ≡ take k (fillTo g l′ k)
+unfolding fillTo
+fill-front g l l′ zero h h′ = refl
+fill-front g l l′ (suc k) h h′ =
+    take-suc-set (fillTo g l k) k (g k) (omega (arith, fill-length g l k))
+    ∙ ap (λ a. a ++ (g k ∷ [])) (fill-front g l l′ k (omega arith) (omega arith))
+    ∙ sym (take-suc-set (fillTo g l′ k) k (g k) (omega (arith, fill-length g l′ k)))
 
 -- two stores side by side
 module _ (l : List ℕ) (i x y : ℕ) where

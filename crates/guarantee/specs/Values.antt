@@ -1,6 +1,6 @@
 -- Laws of the row value: how far rounding down takes it, that it rises with the table, its bound, and that it looks at successors only.
 -- Averages are treated over any weight total above 0 and any list of outcomes; the problem's total is put in once, in `rowValue-average`.
-use mathlib.Core.Path.{_≡_, refl}
+use mathlib.Core.Path.{_≡_, refl, ap}
 use Prim.Native.Nat.{ℕ, _+_, _-_, _*_, _/_, _%_, _≤_, _<_}
 use mathlib.Core.List.{List, [], _∷_}
 use native.Mathlib.Nat.{mul-le-mul-left, mul-div-le, lt-mul-div-succ, le-div-iff-mul-le, div-le-of-le-mul, div-mul-le-self, le-trans}
@@ -128,6 +128,12 @@ module _ (p : Problem) (formed : WellFormed p) where
   pub rowValue-same-states : (v w : ℕ → ℕ) → ((s : ℕ) → s < p .states → v s ≡ w s)
       → (r : ℕ) → r < p .rows → rowValue p v r ≡ rowValue p w r
   rowValue-same-states v w same r l = rowValue-same p r v w (λ o i. same (o .successor) (formed .successor-state r l o i))
+
+  pub rowRemainder-same-states : (v w : ℕ → ℕ) → ((s : ℕ) → s < p .states → v s ≡ w s)
+      → (r : ℕ) → r < p .rows → rowRemainder p v r ≡ rowRemainder p w r
+  unfolding rowRemainder
+  rowRemainder-same-states v w same r l =
+      ap (λ x. x % p .total) (weightedSum-same (p .outcomes r) v w (λ o i. same (o .successor) (formed .successor-state r l o i)))
 
   pub rowValue-bound-states : (v : ℕ → ℕ) → ((s : ℕ) → s < p .states → v s ≤ giveUpCost p)
       → (r : ℕ) → r < p .rows → rowValue p v r ≤ rowTicks p r + giveUpCost p

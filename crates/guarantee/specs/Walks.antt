@@ -13,8 +13,8 @@ use borrow.Author.Tests.{ltb-true, eqb-false, not-true}
 use Rattle.model.specs.Limits.{maxStates}
 use Rattle.model.specs.Problem.{Problem, Outcome, endRow, ownRow}
 use Rattle.model.specs.Search.{sumTo}
-use Rattle.model.specs.Walk.{In, here, there, nextOn, next, walk, Reached, at-start, along}
-use Rattle.model.specs.Walk.{pickCost, leastOn, leastTo, leastCost}
+use Rattle.model.specs.Walk.{In, here, there, nextOn, next, walk, walkWith, Reached, at-start, along}
+use Rattle.model.specs.Walk.{pickCost, leastOn, leastTo, leastCost, leastCostWith}
 use Rattle.guarantee.specs.WellFormed.{WellFormed}
 use Rattle.guarantee.specs.Graphs.{sumOver, sumOver-each, sumTo-each, each, NoDup, no-dup, one-place}
 use Rattle.guarantee.specs.Graphs.{only, only-once, in-nil, in-cons}
@@ -83,7 +83,7 @@ module _ (p : Problem) (formed : WellFormed p) where
 
     -- the walk as a whole, over the reached states
     pub walk-whole : Whole (p .goal) (next p picks) (p .states) (Reached p picks) maxStates (p .start) (walk p picks)
-    unfolding walk
+    unfolding walkWith
     walk-whole =
         whole-walk
         (p .goal)
@@ -161,7 +161,7 @@ module _ (p : Problem) (formed : WellFormed p) where
         go (no l) ih = omega (arith, ih (omega arith), least-on test (pickCost p picks k) (leastTo p picks marks k))
 
     pub least-low : (s : ℕ) → Reached p picks s → p .goal s ≡ false → leastCost p picks ≤ pickCost p picks s
-    unfolding leastCost
+    unfolding leastCostWith
     least-low s r o = least-under (walk p picks .marks) (p .states) s (reached-state s r) o (reached-marked s r)
 
     least-attained : (k : ℕ) → Cheapest p picks (leastTo p picks (walk p picks .marks) k)
@@ -188,12 +188,12 @@ module _ (p : Problem) (formed : WellFormed p) where
             }
 
     pub least-cheapest : Cheapest p picks (leastCost p picks)
-    unfolding leastCost
+    unfolding leastCostWith
     least-cheapest = least-attained (p .states)
 
   -- picks that agree on states make the same walk
   pub walk-same : (picks picks′ : ℕ → ℕ) → ((s : ℕ) → s < p .states → picks s ≡ picks′ s) → walk p picks ≡ walk p picks′
-  unfolding walk
+  unfolding walkWith
   walk-same picks picks′ h =
       visit-same
       (p .goal)

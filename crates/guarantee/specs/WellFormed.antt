@@ -9,16 +9,19 @@ use lib.Dec.{leb, ltb, eqb}
 use lib.ListN.{length}
 use borrow.Author.Tests.{leb-true, ltb-true, eqb-true, ne-eqb, not-true}
 use Rattle.model.specs.Bytes.{u16At}
-use Rattle.model.specs.Limits.{minSettings, maxSettings, weightTotals, maxStates, maxRows, maxOutcomes, maxTolerance, maxPenalty, maxSeconds}
+use Rattle.model.specs.Limits.{minSettings, maxSettings, weightTotals, maxStates, maxRows, maxOutcomes, maxTolerance, maxPenalty}
+use Rattle.model.specs.Limits.{maxSeconds}
 use Rattle.model.specs.Limits.{minRate, maxRate, fileStick}
 use Rattle.model.specs.Problem.{Problem, Outcome, giveUpCost, endRow}
 use Rattle.model.specs.Search.{sumTo, oneOf}
 use Rattle.model.specs.Value.{rowValue, totalWeight}
 use Rattle.model.specs.Sections.{sectionEnd, statesAt, rowsAt, outcomesAt, fileEnd, stateAt, rowCountOf, goalByteOf, firstRowOf, rowAt}
 use Rattle.model.specs.Sections.{kindOf, outcomeCountOf, costNumberOf, rateSeconds, secondsOn, firstOutcomeOf, outcomeAt, problemOf}
-use Rattle.model.specs.Questions.{passes, _then_, ask, between, sectionQuestions, endQuestion, layoutQuestions, settingQuestions}
+use Rattle.model.specs.Questions.{passes, _then_, ask, between, sectionQuestions, endQuestion, layoutQuestions}
+use Rattle.model.specs.Questions.{layoutQuestionsWithin, settingQuestions}
 use Rattle.model.specs.Questions.{stateObeys, stateQuestion, startQuestion, rowNumberQuestion, costObeys, rowObeys, rowQuestion}
-use Rattle.model.specs.Questions.{outcomeNumberQuestion, outcomesObey, rowSound, outcomeQuestion, estimateQuestion, itemQuestions, fileQuestions}
+use Rattle.model.specs.Questions.{outcomeNumberQuestion, outcomesObey, rowSound, outcomeQuestion, estimateQuestion, itemQuestions}
+use Rattle.model.specs.Questions.{fileQuestions, fileQuestionsWithin}
 use Rattle.model.specs.Walk.{In, here, there}
 use Rattle.guarantee.specs.Rates.{seconds-low, seconds-high}
 use Rattle.guarantee.specs.Searches.{and-left, and-right, or-skip, then-first, then-next, ask-yes, ask-each-yes, sum-monotone}
@@ -117,7 +120,7 @@ section-there place i size low high f h =
     }
 
 pub sectioned : (f : List ℕ) → layoutQuestions f ≡ passes → Sectioned f
-unfolding layoutQuestions endQuestion statesAt rowsAt outcomesAt fileEnd
+unfolding layoutQuestionsWithin endQuestion statesAt rowsAt outcomesAt fileEnd
 sectioned f h =
     let q₀ = sectionQuestions 0 0 4 minSettings maxSettings f in
     let q₁ = sectionQuestions 1 (statesAt f) 6 1 maxStates f in
@@ -160,7 +163,7 @@ record Asked (f : List ℕ) (p : Problem) : Type 0 where
   estimates : estimateQuestion p ≡ passes
 
 asked : (f : List ℕ) → fileQuestions f ≡ passes → Asked f (problemOf f)
-unfolding fileQuestions itemQuestions
+unfolding fileQuestionsWithin itemQuestions
 asked f h =
     let p = problemOf f in
     let q₅ = stateQuestion f p in
@@ -214,7 +217,7 @@ laid-sums f sections rows outcomes =
     }
 
 pub laid : (f : List ℕ) → fileQuestions f ≡ passes → Laid f
-unfolding fileQuestions problemOf
+unfolding fileQuestionsWithin problemOf
 laid f h =
     let p = problemOf f in
     let ask = asked f h in

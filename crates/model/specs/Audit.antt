@@ -5,13 +5,13 @@ use mathlib.Core.List.{List}
 use lib.Dec.{leb, eqb}
 use lib.ListN.{getD, length}
 use lib.IntN.{ℤ, pos, subℕ}
-use Rattle.model.specs.Limits.{giveUp}
+use Rattle.model.specs.Limits.{Limits, maxStates, inForce, giveUp}
 use Rattle.model.specs.Problem.{Problem, giveUpCost, ownRow}
 use Rattle.model.specs.Search.{first}
 use Rattle.model.specs.Sections.{problemOf}
 use Rattle.model.specs.Value.{rowValue, byState}
-use Rattle.model.specs.Questions.{Verdict, passes, fails, fileQuestions, undercutRow, undercutState}
-use Rattle.model.specs.Walk.{walk, leastCost}
+use Rattle.model.specs.Questions.{Verdict, passes, fails, fileQuestionsWithin, undercutRow, undercutState}
+use Rattle.model.specs.Walk.{walkWith, leastCostWith}
 
 -- "Accepted .. carries C", "The audit's refusals carry an excess"
 pub data Audited : Type 0 where
@@ -55,31 +55,44 @@ unfoldable pub slackState : Problem → (ℕ → ℕ) → (ℕ → ℕ) → List
 slackState p v picks marks =
     first (λ s. not (open-state p marks s) || leb (pickValue p v picks s) (v s + p .tolerance - 1)) 0 (p .states)
 
--- questions 16 to 19 in order
-unfoldable pub tableQuestions : Problem → (ℕ → ℕ) → (ℕ → ℕ) → Audited
-tableQuestions p v picks =
+-- questions 16 to 19 in order, with k marks
+unfoldable pub tableQuestionsWith : ℕ → Problem → (ℕ → ℕ) → (ℕ → ℕ) → Audited
+tableQuestionsWith k p v picks =
     let unbounded = unboundedState p v in
     let s = undercutState p v in
     let r = undercutRow p v s in
-    let marks = walk p picks .marks in
+    let marks = walkWith k p picks .marks in
     let stray = strayState p picks marks in
     let slack = slackState p v picks marks in
     orElse (leb (p .states) unbounded) (refused 16 unbounded (pos 0))
     (orElse (leb (p .states) s) (refused 17 r (subℕ (v s) (rowValue p v r)))
     (orElse (leb (p .states) stray) (refused 18 stray (pos 0))
     (orElse (leb (p .states) slack) (refused 19 slack (subℕ (v slack) (pickValue p v picks slack)))
-    (accepted (leastCost p picks)))))
+    (accepted (leastCostWith k p picks)))))
 
 -- "are values and picks long enough? 15 (table)."
-unfoldable pub problemAudit : Problem → List ℕ → List ℕ → Audited
-problemAudit p values picks =
+unfoldable pub problemAuditWith : ℕ → Problem → List ℕ → List ℕ → Audited
+problemAuditWith k p values picks =
     orElse (leb (p .states) (length values)) (refused 15 0 (pos 0))
-    (orElse (leb (p .states) (length picks)) (refused 15 1 (pos 0)) (tableQuestions p (byState values) (byState picks)))
+    (orElse (leb (p .states) (length picks)) (refused 15 1 (pos 0)) (tableQuestionsWith k p (byState values) (byState picks)))
 
-abbrev pub auditOn : Verdict → Problem → List ℕ → List ℕ → Audited
-auditOn passes p values picks = problemAudit p values picks
-auditOn (fails q i) p values picks = refused q i (pos 0)
+abbrev pub auditOnWith : ℕ → Verdict → Problem → List ℕ → List ℕ → Audited
+auditOnWith k passes p values picks = problemAuditWith k p values picks
+auditOnWith k (fails q i) p values picks = refused q i (pos 0)
 
 -- "The audit accepts exactly when its questions all say yes."
-unfoldable pub audit : List ℕ → List ℕ → List ℕ → Audited
-audit f values picks = auditOn (fileQuestions f) (problemOf f) values picks
+unfoldable pub auditWithin : Limits → List ℕ → List ℕ → List ℕ → Audited
+auditWithin L f values picks = auditOnWith (L .states) (fileQuestionsWithin L f) (problemOf f) values picks
+
+-- within the limits that are in force
+abbrev pub tableQuestions : Problem → (ℕ → ℕ) → (ℕ → ℕ) → Audited
+tableQuestions = tableQuestionsWith maxStates
+
+abbrev pub problemAudit : Problem → List ℕ → List ℕ → Audited
+problemAudit = problemAuditWith maxStates
+
+abbrev pub auditOn : Verdict → Problem → List ℕ → List ℕ → Audited
+auditOn = auditOnWith maxStates
+
+abbrev pub audit : List ℕ → List ℕ → List ℕ → Audited
+audit = auditWithin inForce

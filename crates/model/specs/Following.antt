@@ -6,13 +6,13 @@ use mathlib.Core.List.{List, [], _∷_}
 use lib.Dec.{leb, ltb, eqb}
 use lib.IntN.{ℤ, pos}
 use lib.ListN.{getD, length}
-use Rattle.model.specs.Limits.{giveUp, maxMoves, maxSpent}
+use Rattle.model.specs.Limits.{Limits, inForce, giveUp, maxMoves, maxSpent}
 use Rattle.model.specs.Problem.{Problem}
 use Rattle.model.specs.Sections.{problemOf}
 use Rattle.model.specs.Value.{byState}
 use Rattle.model.specs.Questions.{Verdict, passes, fails, _then_, ask}
 use Rattle.model.specs.Walk.{successors}
-use Rattle.model.specs.Audit.{Audited, accepted, refused as audit-refused, ownPick, audit}
+use Rattle.model.specs.Audit.{Audited, accepted, refused as audit-refused, ownPick, auditWithin}
 use Rattle.model.specs.declared.Follower.{Follower}
 
 -- Moves, with no refusals
@@ -92,8 +92,11 @@ follow (audit-refused q i excess) v w w′ = record { answer = refused q i exces
 abbrev pub atStart : Problem → Follower
 atStart p = record { state = p .start; moves = 0; seconds = 0; mark = 0 }
 
-unfoldable pub opening : List ℕ → List ℕ → List ℕ → Follower → Report
-opening f values picks w = follow (audit f values picks) passes w (atStart (problemOf f))
+unfoldable pub openingWithin : Limits → List ℕ → List ℕ → List ℕ → Follower → Report
+openingWithin L f values picks w = follow (auditWithin L f values picks) passes w (atStart (problemOf f))
+
+abbrev pub opening : List ℕ → List ℕ → List ℕ → Follower → Report
+opening = openingWithin inForce
 
 -- giving up "sets a mark in the record and so ends it"
 abbrev pub markOn : Bool → ℕ → ℕ
@@ -110,9 +113,13 @@ moved p picks w o =
       mark = markOn (eqb (picks (w .state)) giveUp) (w .mark);
     }
 
-unfoldable pub report : List ℕ → List ℕ → List ℕ → Follower → ℕ → Report
-report f values picks w o =
-    follow (audit f values picks) (reportQuestions (problemOf f) (byState picks) w o) w (moved (problemOf f) (byState picks) w o)
+unfoldable pub reportWithin : Limits → List ℕ → List ℕ → List ℕ → Follower → ℕ → Report
+reportWithin L f values picks w o =
+    follow (auditWithin L f values picks) (reportQuestions (problemOf f) (byState picks) w o) w
+    (moved (problemOf f) (byState picks) w o)
+
+abbrev pub report : List ℕ → List ℕ → List ℕ → Follower → ℕ → Report
+report = reportWithin inForce
 
 -- "For every list of reports .., all on one file and plan": the record that the list leaves, and its accepted reports
 unfoldable pub reports : List ℕ → List ℕ → List ℕ → List ℕ → Follower → Follower

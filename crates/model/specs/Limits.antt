@@ -2,21 +2,38 @@
 use Prim.Native.Nat.{ℕ, _+_, _-_}
 use mathlib.Core.List.{List, [], _∷_}
 
--- "count 3", and since request E7 "Settings may have count 4"; "count 1 to 1,024", "count 0 to 4,096", "count 0 to 8,192"
+-- "count 3", and since request E7 "Settings may have count 4"
 abbrev pub minSettings : ℕ
 minSettings = 3
 
 abbrev pub maxSettings : ℕ
 maxSettings = 4
 
+-- how many states, rows and outcomes a file may have: an argument of what reads them
+pub record Limits : Type 0 where
+  pub states : ℕ
+  pub rows : ℕ
+  pub outcomes : ℕ
+
+abbrev pub limitsOf : ℕ → ℕ → ℕ → Limits
+limitsOf states rows outcomes = record { states = states; rows = rows; outcomes = outcomes }
+
+-- Document 01: "count 1 to 1,024", "count 0 to 4,096", "count 0 to 8,192"
+abbrev pub oldLimits : Limits
+oldLimits = limitsOf 1024 4096 8192
+
+-- Request E9: "Deep sections need 2,048 states, 8,192 rows and 16,384 outcomes." These are in force
 abbrev pub maxStates : ℕ
-maxStates = 1024
+maxStates = 2048
 
 abbrev pub maxRows : ℕ
-maxRows = 4096
+maxRows = 8192
 
 abbrev pub maxOutcomes : ℕ
-maxOutcomes = 8192
+maxOutcomes = 16384
+
+abbrev pub inForce : Limits
+inForce = limitsOf maxStates maxRows maxOutcomes
 
 -- "tolerance e in ticks, 1 to 999; penalty D in seconds, 1 to 400,000"
 abbrev pub maxTolerance : ℕ
@@ -82,6 +99,10 @@ maxBudget = 2000000000000000
 -- "The program `plan` .. runs up to 1,000,000 rounds."
 abbrev pub planRounds : ℕ
 planRounds = 1000000
+
+-- E9: "`plan` holds 65,536 bytes; a file above that goes to the library."
+abbrev pub planHolds : ℕ
+planHolds = 65536
 
 -- "does the row value fit in 32 bits?"
 abbrev pub valueBound : ℕ

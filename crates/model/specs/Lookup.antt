@@ -5,8 +5,9 @@ use mathlib.Core.Bool.{Bool, true, false}
 use mathlib.Core.List.{List, []}
 use lib.Dec.{ltb}
 use lib.ListN.{take, drop}
+use Rattle.model.specs.Limits.{Limits, inForce}
 use Rattle.model.specs.Sections.{problemOf, rowAt}
-use Rattle.model.specs.Questions.{Verdict, passes, fails, fileQuestions}
+use Rattle.model.specs.Questions.{Verdict, passes, fails, fileQuestionsWithin}
 
 -- the rows of state s, 4 bytes each
 unfoldable pub stretch : List ℕ → ℕ → List ℕ
@@ -17,5 +18,8 @@ rowsOn passes true f s = stretch f s
 rowsOn passes false f s = []
 rowsOn (fails q i) b f s = []
 
-unfoldable pub rowsOf : List ℕ → ℕ → List ℕ
-rowsOf f s = rowsOn (fileQuestions f) (ltb s (problemOf f .states)) f s
+unfoldable pub rowsWithin : Limits → List ℕ → ℕ → List ℕ
+rowsWithin L f s = rowsOn (fileQuestionsWithin L f) (ltb s (problemOf f .states)) f s
+
+abbrev pub rowsOf : List ℕ → ℕ → List ℕ
+rowsOf = rowsWithin inForce

@@ -4,12 +4,13 @@ use mathlib.Core.Path.{_≡_}
 use Prim.Native.Nat.{ℕ, suc, _+_, _-_, _*_, _≤_}
 use mathlib.Core.Bool.{Bool, true, false}
 use mathlib.Core.List.{List}
+use lib.Dec.{leb}
 use lib.IntN.{ℤ, pos, negsuc}
 use lib.ListN.{length, replicate, take}
-use Rattle.model.specs.Limits.{maxStates, maxRows, listEnd, planRounds}
+use Rattle.model.specs.Limits.{Limits, inForce, listEnd, planRounds, planHolds}
 use Rattle.model.specs.Problem.{Problem}
 use Rattle.model.specs.Sections.{atTolerance, problemOf}
-use Rattle.model.specs.Questions.{passes, fails, fileQuestions}
+use Rattle.model.specs.Questions.{Verdict, passes, fails, _then_, ask, fileQuestions}
 use Rattle.model.specs.Value.{byState}
 use Rattle.model.specs.Walk.{Reached}
 use Rattle.model.specs.Solution.{refused, Tables, tables, Solution, solveQuestions, solution}
@@ -95,21 +96,37 @@ pub record Writes (answer : WriteAnswer) (left : List ℕ) (said : Writing) : Ty
 
 -- "The program `plan` .. runs up to 1,000,000 rounds", of the plain run or, with `--finish`, of E8's: with lent values and picks, and tables
 -- of its own for what is remembered and for the walk list
+abbrev pub planTables : Limits → List ℕ → List ℕ → Tables
+planTables L values picks = tables values picks (replicate (L .rows) 0) (replicate (L .states) listEnd)
+
+-- Request E9: "25 when the standard input of `plan` is longer than 65,536 bytes, before question 1, place 0."
+abbrev pub planQuestion : List ℕ → Verdict
+planQuestion f = ask 25 0 (leb (length f) planHolds)
+
+-- where it says no, that is the answer, and the tables are as they were lent
+unfoldable pub heldOn : Verdict → Tables → Solution → Solution
+heldOn passes t s = s
+heldOn (fails q i) t s = record { answer = refused q i; tables = t }
+
 abbrev pub planSolution : Kind → List ℕ → List ℕ → List ℕ → Solution
 planSolution kind f values picks =
-    solution kind f planRounds (tables values picks (replicate maxRows 0) (replicate maxStates listEnd))
+    let t = planTables inForce values picks in heldOn (planQuestion f) t (solution kind f planRounds t)
 
--- the text was put at the front of `out`, and nothing of it was cut; the tables are those of the solution; a refusal is one of questions 1
--- to 11, none of the program's own tables or budget; the number of states that is told is 0 after a refusal, and lies within both tables
-pub record Plans (kind : Kind) (f values picks out values′ picks′ out′ : List ℕ) (size states : ℕ) : Type 0 where
-  pub text : Holds out out′ size (planText (problemOf f) (planSolution kind f values picks))
-  pub whole : take size out′ ≡ planText (problemOf f) (planSolution kind f values picks)
-  pub values-are : values′ ≡ planSolution kind f values picks .tables .values
-  pub picks-are : picks′ ≡ planSolution kind f values picks .tables .picks
-  pub refused-by : (q i : ℕ) → planSolution kind f values picks .answer ≡ refused q i → fileQuestions f ≡ fails q i
-  pub states-are : states ≡ runStates (planSolution kind f values picks .answer) (problemOf f .states)
+-- the text of a solution was put at the front of `out`, and nothing of it was cut; the tables are the solution's; a refusal is that of
+-- `asked`; the number of states that is told is 0 after a refusal, and lies within both tables
+pub record Shown (p : Problem) (s : Solution) (asked : Verdict) (out values′ picks′ out′ : List ℕ) (size states : ℕ) : Type 0 where
+  pub text : Holds out out′ size (planText p s)
+  pub whole : take size out′ ≡ planText p s
+  pub values-are : values′ ≡ s .tables .values
+  pub picks-are : picks′ ≡ s .tables .picks
+  pub refused-by : (q i : ℕ) → s .answer ≡ refused q i → asked ≡ fails q i
+  pub states-are : states ≡ runStates (s .answer) (p .states)
   pub values-hold : states ≤ length values′
   pub picks-hold : states ≤ length picks′
+
+-- a refusal is 25 or one of questions 1 to 11, none of the program's own tables or budget
+abbrev pub Plans : Kind → (f values picks out values′ picks′ out′ : List ℕ) → ℕ → ℕ → Type 0
+Plans kind f values picks = Shown (problemOf f) (planSolution kind f values picks) (planQuestion f then fileQuestions f)
 
 -- the line of the audit of a file with the tables of two table files was put at the front of `out`, and nothing of it was cut
 pub record Audits (f values picks out out′ : List ℕ) (size : ℕ) : Type 0 where

@@ -5,7 +5,7 @@ use mathlib.Core.List.{List, [], _∷_}
 use lib.Dec.{leb, ltb, eqb}
 use lib.ListN.{length}
 use Rattle.model.specs.Bytes.{u16At}
-use Rattle.model.specs.Limits.{minSettings, maxSettings, weightTotals, maxStates, maxRows, maxOutcomes, maxTolerance, maxPenalty}
+use Rattle.model.specs.Limits.{Limits, inForce, minSettings, maxSettings, weightTotals, maxTolerance, maxPenalty}
 use Rattle.model.specs.Limits.{maxSeconds, minRate, maxRate}
 use Rattle.model.specs.Problem.{Problem, Outcome, endRow, giveUpCost}
 use Rattle.model.specs.Search.{first, sumTo, oneOf}
@@ -47,13 +47,16 @@ sectionQuestions place i size low high f =
 unfoldable pub endQuestion : List ℕ → Verdict
 endQuestion f = ask 3 3 (eqb (fileEnd f) (length f))
 
-unfoldable pub layoutQuestions : List ℕ → Verdict
-layoutQuestions f =
+unfoldable pub layoutQuestionsWithin : Limits → List ℕ → Verdict
+layoutQuestionsWithin L f =
     sectionQuestions 0 0 4 minSettings maxSettings f
-    then sectionQuestions 1 (statesAt f) 6 1 maxStates f
-    then sectionQuestions 2 (rowsAt f) 4 0 maxRows f
-    then sectionQuestions 3 (outcomesAt f) 4 0 maxOutcomes f
+    then sectionQuestions 1 (statesAt f) 6 1 (L .states) f
+    then sectionQuestions 2 (rowsAt f) 4 0 (L .rows) f
+    then sectionQuestions 3 (outcomesAt f) 4 0 (L .outcomes) f
     then endQuestion f
+
+abbrev pub layoutQuestions : List ℕ → Verdict
+layoutQuestions = layoutQuestionsWithin inForce
 
 -- "Is the start below the state count, then e, then D in range? 4 (setting 0 to 2)." Request E7: "24 when the fourth setting isn't one of
 -- these, asked after the third under place 3; wherever a stretch of questions that holds 4 is named, 24 belongs to it."
@@ -138,5 +141,8 @@ itemQuestions f p =
     then estimateQuestion p
 
 -- questions 1 to 11
-unfoldable pub fileQuestions : List ℕ → Verdict
-fileQuestions f = layoutQuestions f then settingQuestions (problemOf f) then itemQuestions f (problemOf f)
+unfoldable pub fileQuestionsWithin : Limits → List ℕ → Verdict
+fileQuestionsWithin L f = layoutQuestionsWithin L f then settingQuestions (problemOf f) then itemQuestions f (problemOf f)
+
+abbrev pub fileQuestions : List ℕ → Verdict
+fileQuestions = fileQuestionsWithin inForce

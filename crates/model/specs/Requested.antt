@@ -4,19 +4,20 @@ use Prim.Native.Nat.{_+_}
 use mathlib.Core.List.{List, [], _∷_, _++_}
 use lib.IntN.{pos, negsuc}
 use lib.ListN.{set, replicate, take}
-use Rattle.model.specs.Limits.{planRounds}
+use Rattle.model.specs.Limits.{limitsOf, planRounds}
 use Rattle.model.specs.Value.{byState}
 use Rattle.model.specs.Sections.{lengthSeconds}
 use Rattle.model.specs.Sections.{atTolerance, problemOf}
 use Rattle.model.specs.Questions.{passes, fails}
-use Rattle.model.specs.Questions.{fileQuestions}
+use Rattle.model.specs.Questions.{fileQuestions, fileQuestionsWithin}
 use Rattle.model.specs.Carried.{counts}
-use Rattle.model.specs.Solution.{solved, solution}
+use Rattle.model.specs.Solution.{solved, solution, solutionWithin}
 use Rattle.model.specs.declared.Kind.the-variants.{Plain}
-use Rattle.model.specs.Audit.{accepted, refused as audit-refused, audit}
+use Rattle.model.specs.Audit.{accepted, refused as audit-refused, audit, auditWithin}
 use Rattle.model.specs.Following.{waySeconds, done, refused, opening}
 use Rattle.model.specs.Following.{report, reports, acceptedOf}
 use Rattle.model.specs.Lines.{codes, planText}
+use Rattle.model.specs.Promises.{planQuestion}
 use Rattle.model.specs.SetForm.{weightTo, setForm, exchange}
 use Rattle.model.specs.Buffers.{written, refused as write-refused}
 use Rattle.model.specs.Sheets.{rateLines}
@@ -132,4 +133,19 @@ finishings =
     ∷ (finished coarse 2 2 ≡ codes "spent 2 2\n0 1333 0 889\n")
     ∷ (finished fileP planRounds 3 ≡ codes "solved 4 7 100000\n0 370000 0 0\n1 300000 2 0\n")
     ∷ (atTolerance 1 coarse ≡ rounding)
+    ∷ []
+
+-- and those of E9: within limits of P's own counts, 3 states, 3 rows and 4 outcomes, and so with 3 marks, P passes and has its plan and its
+-- audit; within less of one of them it meets question 2 at that section. An input of a byte more than `plan` holds meets 25 before
+-- anything else
+abbrev pub longer : List (Type 0)
+longer =
+    (fileQuestionsWithin (limitsOf 3 3 4) fileP ≡ passes)
+    ∷ (fileQuestionsWithin (limitsOf 2 3 4) fileP ≡ fails 2 1)
+    ∷ (fileQuestionsWithin (limitsOf 3 2 4) fileP ≡ fails 2 2)
+    ∷ (fileQuestionsWithin (limitsOf 3 3 3) fileP ≡ fails 2 3)
+    ∷ (solutionWithin (limitsOf 3 3 4) Plain fileP planRounds (lent 3) ≡ planned fileP 3)
+    ∷ (auditWithin (limitsOf 3 3 4) fileP valuesP picksP ≡ accepted 100000)
+    ∷ (planQuestion (replicate 65536 0) ≡ passes)
+    ∷ (planQuestion (replicate 65537 0) ≡ fails 25 0)
     ∷ []

@@ -4,10 +4,10 @@ use mathlib.Core.Bool.{Bool, true, false, _&&_, _||_, not}
 use mathlib.Core.List.{List, [], _∷_, _++_}
 use lib.Dec.{leb, ltb, eqb}
 use lib.ListN.{getD, set, length, drop, replicate}
-use Rattle.model.specs.Limits.{giveUp, noPick, listEnd}
+use Rattle.model.specs.Limits.{maxStates, giveUp, noPick, listEnd}
 use Rattle.model.specs.Problem.{Problem, giveUpCost, ownRow}
 use Rattle.model.specs.Value.{rowValue, byState}
-use Rattle.model.specs.Walk.{walk}
+use Rattle.model.specs.Walk.{walkWith}
 use Rattle.model.specs.declared.Kind.{Kind}
 use Rattle.model.specs.declared.Kind.the-variants.{Plain, Finishing}
 
@@ -107,19 +107,20 @@ unfoldable pub backups : Problem → ℕ → List ℕ → Machine → Machine
 backups p e [] m = m
 backups p e (s ∷ ss) m = backups p e ss (backup p e s m)
 
-abbrev pub walked : Problem → Machine → Machine
-walked p m =
+-- after a walk with k marks
+abbrev pub walkedWith : ℕ → Problem → Machine → Machine
+walkedWith k p m =
     record {
       values = m .values;
       picks = m .picks;
       remembered = m .remembered;
-      list = walk p (byState (m .picks)) .list;
+      list = walkWith k p (byState (m .picks)) .list;
       evaluations = m .evaluations;
       moved = false;
     }
 
-unfoldable pub round : Problem → ℕ → Machine → Machine
-round p e m = backups p e (walk p (byState (m .picks)) .list) (walked p m)
+unfoldable pub roundWith : ℕ → Problem → ℕ → Machine → Machine
+roundWith k p e m = backups p e (walkWith k p (byState (m .picks)) .list) (walkedWith k p m)
 
 -- how a run ends: the rounds done, and the machine as it is left
 pub data Ending : Type 0 where
@@ -129,11 +130,11 @@ pub data Ending : Type 0 where
 -- `budget` rounds are left, `going` says whether the round before moved something, `n` rounds are done.
 -- "A round with no rise, in which each listed state's pick after its backup is the one before it, ends the run as solved. If
 -- the budget is reached first, the run is spent."
-unfoldable pub runFrom : Problem → ℕ → ℕ → Bool → ℕ → Machine → Ending
-runFrom p e zero true n m = spent n m
-runFrom p e zero false n m = solved n m
-runFrom p e (suc budget) false n m = solved n m
-runFrom p e (suc budget) true n m = let m′ = round p e m in runFrom p e budget (m′ .moved) (suc n) m′
+unfoldable pub runFromWith : ℕ → Problem → ℕ → ℕ → Bool → ℕ → Machine → Ending
+runFromWith k p e zero true n m = spent n m
+runFromWith k p e zero false n m = solved n m
+runFromWith k p e (suc budget) false n m = solved n m
+runFromWith k p e (suc budget) true n m = let m′ = roundWith k p e m in runFromWith k p e budget (m′ .moved) (suc n) m′
 
 -- the first k entries of a table are g 0, g 1, ..; the rest stay
 unfoldable pub fillTo : (ℕ → ℕ) → List ℕ → ℕ → List ℕ
@@ -154,15 +155,31 @@ machineStart p values picks remembered =
 
 -- Request E8: "A finishing run goes on, after the quiet round that would end it, with tolerance 1 until the next quiet round. .. Its counts
 -- run through both parts.", also where e is 1; one budget bounds both. "The plain run remains available."
-unfoldable pub goesOn : Kind → Problem → ℕ → Ending → Ending
-goesOn Plain p budget end = end
-goesOn Finishing p budget (spent n m) = spent n m
-goesOn Finishing p budget (solved n m) = runFrom p 1 (budget - n) true n m
+unfoldable pub goesOnWith : ℕ → Kind → Problem → ℕ → Ending → Ending
+goesOnWith k Plain p budget end = end
+goesOnWith k Finishing p budget (spent n m) = spent n m
+goesOnWith k Finishing p budget (solved n m) = runFromWith k p 1 (budget - n) true n m
 
 -- the run of a problem with a budget, from lent tables
+abbrev pub runOfWith : ℕ → Kind → Problem → ℕ → List ℕ → List ℕ → List ℕ → Ending
+runOfWith k kind p budget values picks remembered =
+    goesOnWith k kind p budget (runFromWith k p (p .tolerance) budget true 0 (machineStart p values picks remembered))
+
+-- with as many marks as are in force
+abbrev pub walked : Problem → Machine → Machine
+walked = walkedWith maxStates
+
+abbrev pub round : Problem → ℕ → Machine → Machine
+round = roundWith maxStates
+
+abbrev pub runFrom : Problem → ℕ → ℕ → Bool → ℕ → Machine → Ending
+runFrom = runFromWith maxStates
+
+abbrev pub goesOn : Kind → Problem → ℕ → Ending → Ending
+goesOn = goesOnWith maxStates
+
 abbrev pub runOf : Kind → Problem → ℕ → List ℕ → List ℕ → List ℕ → Ending
-runOf kind p budget values picks remembered =
-    goesOn kind p budget (runFrom p (p .tolerance) budget true 0 (machineStart p values picks remembered))
+runOf = runOfWith maxStates
 
 -- "the walk list ending in 65,535s up to the number of states; in every table entries beyond stay"
 unfoldable pub listTable : ℕ → List ℕ → List ℕ → List ℕ

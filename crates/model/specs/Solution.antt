@@ -5,18 +5,18 @@ use mathlib.Core.Bool.{Bool, true, false}
 use mathlib.Core.List.{List, [], _∷_}
 use lib.Dec.{leb, ltb}
 use lib.ListN.{getD, length}
-use Rattle.model.specs.Limits.{maxBudget, valueBound}
+use Rattle.model.specs.Limits.{Limits, maxStates, inForce, maxBudget, valueBound}
 use Rattle.model.specs.Problem.{Problem}
 use Rattle.model.specs.Sections.{problemOf}
 use Rattle.model.specs.Value.{rowValue, byState}
-use Rattle.model.specs.Questions.{Verdict, passes, fails, _then_, ask, fileQuestions}
-use Rattle.model.specs.Walk.{walk, leastCost}
+use Rattle.model.specs.Questions.{Verdict, passes, fails, _then_, ask, fileQuestionsWithin}
+use Rattle.model.specs.Walk.{walkWith, leastCostWith}
 use Rattle.model.specs.Carried.{counts}
 use Rattle.model.specs.declared.Counts.{Counts}
 use Rattle.model.specs.declared.Kind.{Kind}
 use Rattle.model.specs.declared.Kind.the-variants.{Plain, Finishing}
 use Rattle.model.specs.Rounds.{traverse}
-use Rattle.model.specs.Rounds.{Found, Machine, Ending, evaluate, skipped, scanStart, settle, walked, machineStart, listTable}
+use Rattle.model.specs.Rounds.{Found, Machine, Ending, evaluate, skipped, scanStart, settle, walkedWith, machineStart, listTable}
 
 -- "At an evaluation: does the row value fit in 32 bits? 14 (row; tables as before that backup).": all is fine, or the value of a
 -- row is too large, and the machine is left as it was before that backup
@@ -53,24 +53,25 @@ unfoldable pub checkedBackups : Problem → ℕ → List ℕ → Machine → Che
 checkedBackups p e [] m = fine m
 checkedBackups p e (s ∷ ss) m = onwards (checkedBackup p e s m) (checkedBackups p e ss)
 
-unfoldable pub checkedRound : Problem → ℕ → Machine → Checked Machine
-checkedRound p e m = checkedBackups p e (walk p (byState (m .picks)) .list) (walked p m)
+unfoldable pub checkedRoundWith : ℕ → Problem → ℕ → Machine → Checked Machine
+checkedRoundWith k p e m = checkedBackups p e (walkWith k p (byState (m .picks)) .list) (walkedWith k p m)
 
-unfoldable pub checkedRunFrom : Problem → ℕ → ℕ → Bool → ℕ → Machine → Checked Ending
-checkedRunFrom p e zero true n m = fine (Ending.spent n m)
-checkedRunFrom p e zero false n m = fine (Ending.solved n m)
-checkedRunFrom p e (suc budget) false n m = fine (Ending.solved n m)
-checkedRunFrom p e (suc budget) true n m =
-    onwards (checkedRound p e m) (λ m′. checkedRunFrom p e budget (m′ .moved) (suc n) m′)
+unfoldable pub checkedRunFromWith : ℕ → Problem → ℕ → ℕ → Bool → ℕ → Machine → Checked Ending
+checkedRunFromWith k p e zero true n m = fine (Ending.spent n m)
+checkedRunFromWith k p e zero false n m = fine (Ending.solved n m)
+checkedRunFromWith k p e (suc budget) false n m = fine (Ending.solved n m)
+checkedRunFromWith k p e (suc budget) true n m =
+    onwards (checkedRoundWith k p e m) (λ m′. checkedRunFromWith k p e budget (m′ .moved) (suc n) m′)
 
-unfoldable pub checkedGoesOn : Kind → Problem → ℕ → Ending → Checked Ending
-checkedGoesOn Plain p budget end = fine end
-checkedGoesOn Finishing p budget (Ending.spent n m) = fine (Ending.spent n m)
-checkedGoesOn Finishing p budget (Ending.solved n m) = checkedRunFrom p 1 (budget - n) true n m
+unfoldable pub checkedGoesOnWith : ℕ → Kind → Problem → ℕ → Ending → Checked Ending
+checkedGoesOnWith k Plain p budget end = fine end
+checkedGoesOnWith k Finishing p budget (Ending.spent n m) = fine (Ending.spent n m)
+checkedGoesOnWith k Finishing p budget (Ending.solved n m) = checkedRunFromWith k p 1 (budget - n) true n m
 
-abbrev pub checkedRunOf : Kind → Problem → ℕ → List ℕ → List ℕ → List ℕ → Checked Ending
-checkedRunOf kind p budget values picks remembered =
-    onwards (checkedRunFrom p (p .tolerance) budget true 0 (machineStart p values picks remembered)) (checkedGoesOn kind p budget)
+abbrev pub checkedRunOfWith : ℕ → Kind → Problem → ℕ → List ℕ → List ℕ → List ℕ → Checked Ending
+checkedRunOfWith k kind p budget values picks remembered =
+    onwards (checkedRunFromWith k p (p .tolerance) budget true 0 (machineStart p values picks remembered))
+    (checkedGoesOnWith k kind p budget)
 
 -- "Lent tables: values and picks per state, remembered values per row, walk list per state."
 pub record Tables : Type 0 where
@@ -103,11 +104,11 @@ tablesOf p lent m =
       walk-list = listTable (p .states) (m .list) lent;
     }
 
-unfoldable pub solutionOf : Problem → List ℕ → Checked Ending → Solution
-solutionOf p lent (fine (Ending.solved n m)) =
-    record { answer = solved (counts n (m .evaluations) (leastCost p (byState (m .picks)))); tables = tablesOf p lent m }
-solutionOf p lent (fine (Ending.spent n m)) = record { answer = spent (counts n (m .evaluations) 0); tables = tablesOf p lent m }
-solutionOf p lent (over r m) = record { answer = refused 14 r; tables = tablesOf p lent m }
+unfoldable pub solutionOfWith : ℕ → Problem → List ℕ → Checked Ending → Solution
+solutionOfWith k p lent (fine (Ending.solved n m)) =
+    record { answer = solved (counts n (m .evaluations) (leastCostWith k p (byState (m .picks)))); tables = tablesOf p lent m }
+solutionOfWith k p lent (fine (Ending.spent n m)) = record { answer = spent (counts n (m .evaluations) 0); tables = tablesOf p lent m }
+solutionOfWith k p lent (over r m) = record { answer = refused 14 r; tables = tablesOf p lent m }
 
 -- "are values, picks, remembered, walk list long enough? 12 (table 0 to 3). Is the budget at most 2,000,000,000,000,000? 13 (0)."
 unfoldable pub solveQuestions : Problem → ℕ → Tables → Verdict
@@ -119,11 +120,34 @@ solveQuestions p budget t =
     then ask 13 0 (leb budget maxBudget)
 
 -- "A no ends the call with the number and a place; no table has changed, but for 14."
-unfoldable pub solutionOn : Verdict → Kind → Problem → ℕ → Tables → Solution
-solutionOn passes kind p budget t =
-    solutionOf p (t .walk-list) (checkedRunOf kind p budget (t .values) (t .picks) (t .remembered))
-solutionOn (fails q i) kind p budget t = record { answer = refused q i; tables = t }
+unfoldable pub solutionOnWith : ℕ → Verdict → Kind → Problem → ℕ → Tables → Solution
+solutionOnWith k passes kind p budget t =
+    solutionOfWith k p (t .walk-list) (checkedRunOfWith k kind p budget (t .values) (t .picks) (t .remembered))
+solutionOnWith k (fails q i) kind p budget t = record { answer = refused q i; tables = t }
 
 -- solving a file by a run of some kind, with a budget and four lent tables
-unfoldable pub solution : Kind → List ℕ → ℕ → Tables → Solution
-solution kind f budget t = solutionOn (fileQuestions f then solveQuestions (problemOf f) budget t) kind (problemOf f) budget t
+unfoldable pub solutionWithin : Limits → Kind → List ℕ → ℕ → Tables → Solution
+solutionWithin L kind f budget t =
+    solutionOnWith (L .states) (fileQuestionsWithin L f then solveQuestions (problemOf f) budget t) kind (problemOf f) budget t
+
+-- within the limits that are in force
+abbrev pub checkedRound : Problem → ℕ → Machine → Checked Machine
+checkedRound = checkedRoundWith maxStates
+
+abbrev pub checkedRunFrom : Problem → ℕ → ℕ → Bool → ℕ → Machine → Checked Ending
+checkedRunFrom = checkedRunFromWith maxStates
+
+abbrev pub checkedGoesOn : Kind → Problem → ℕ → Ending → Checked Ending
+checkedGoesOn = checkedGoesOnWith maxStates
+
+abbrev pub checkedRunOf : Kind → Problem → ℕ → List ℕ → List ℕ → List ℕ → Checked Ending
+checkedRunOf = checkedRunOfWith maxStates
+
+abbrev pub solutionOf : Problem → List ℕ → Checked Ending → Solution
+solutionOf = solutionOfWith maxStates
+
+abbrev pub solutionOn : Verdict → Kind → Problem → ℕ → Tables → Solution
+solutionOn = solutionOnWith maxStates
+
+abbrev pub solution : Kind → List ℕ → ℕ → Tables → Solution
+solution = solutionWithin inForce

@@ -53,9 +53,12 @@ nextOn false p r = []
 unfoldable pub next : Problem → (ℕ → ℕ) → ℕ → List ℕ
 next p picks s = nextOn (not (p .goal s) && ownRow p s (picks s)) p (picks s)
 
--- "Each walk begins with 1,024 marks, all clear."
-unfoldable pub walk : Problem → (ℕ → ℕ) → Trail
-walk p picks = visitState (p .goal) (next p picks) maxStates (p .start) (record { marks = replicate maxStates 0; list = [] })
+-- E9: "Each walk then begins with 2,048 marks, all clear.": with k marks; 1,024 in document 01
+unfoldable pub walkWith : ℕ → Problem → (ℕ → ℕ) → Trail
+walkWith k p picks = visitState (p .goal) (next p picks) k (p .start) (record { marks = replicate k 0; list = [] })
+
+abbrev pub walk : Problem → (ℕ → ℕ) → Trail
+walk = walkWith maxStates
 
 -- "Reached states: the start, and successors of a reached state's picked row."
 pub data Reached (p : Problem) (picks : ℕ → ℕ) : ℕ → Type 0 where
@@ -81,5 +84,8 @@ leastTo p picks marks (suc k) =
     leastOn (not (p .goal k) && not (eqb (getD marks k 0) 0)) (pickCost p picks k) (leastTo p picks marks k)
 
 -- "C is the least of 1000 × c or 1000 × D over the picks at reached states that aren't goals."
-unfoldable pub leastCost : Problem → (ℕ → ℕ) → ℕ
-leastCost p picks = leastTo p picks (walk p picks .marks) (p .states)
+unfoldable pub leastCostWith : ℕ → Problem → (ℕ → ℕ) → ℕ
+leastCostWith k p picks = leastTo p picks (walkWith k p picks .marks) (p .states)
+
+abbrev pub leastCost : Problem → (ℕ → ℕ) → ℕ
+leastCost = leastCostWith maxStates

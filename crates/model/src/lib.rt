@@ -2,16 +2,16 @@
 
 // The numbers of document 01, each under the name that specs/Limits.antt gives it.
 
-// The longest problem: section counts that question 2 lets through.
+// The largest problem: section counts that question 2 lets through.
 pub const MIN_SETTINGS: u32 = 3;
 
 pub const MAX_SETTINGS: u32 = 4;
 
-pub const MAX_STATES: usize = 1024;
+pub const MAX_STATES: usize = 2048;
 
-pub const MAX_ROWS: usize = 4096;
+pub const MAX_ROWS: usize = 8192;
 
-pub const MAX_OUTCOMES: usize = 8192;
+pub const MAX_OUTCOMES: usize = 16384;
 
 // Tolerance in ticks, penalty in seconds.
 pub const MAX_TOLERANCE: u32 = 999;
@@ -58,12 +58,18 @@ pub const MAX_MOVES: u64 = 1000000;
 
 pub const MAX_SPENT: u64 = 400000000000;
 
-// The longest first line of `plan` and line of `audit`, the longest line of a state, and room for the text of every plan.
+// The longest first line of `plan` and line of `audit`.
 pub const LINE_MOST: usize = 73;
 
-pub const STATE_MOST: usize = 27;
+// "`plan` holds 65,536 bytes"
+pub const PLAN_HOLDS: usize = 65536;
 
-pub const PLAN_ROOM: usize = LINE_MOST + STATE_MOST * MAX_STATES;
+// The longest file that passes: four counts, and each section full.
+pub const LONGEST_FILE: usize = 8
+    + 4 * (MAX_SETTINGS as usize)
+    + 6 * MAX_STATES
+    + 4 * MAX_ROWS
+    + 4 * MAX_OUTCOMES;
 
 // A row value at least this does not fit in 32 bits.
 pub const VALUE_BOUND: u64 = 4294967296;

@@ -9,13 +9,14 @@ use libc::STDOUT_FILENO;
 use model::Kind;
 use model::MAX_STATES;
 use model::NO_PICK;
-use model::PLAN_ROOM;
+use model::PLAN_HOLDS;
 use printing::table_files::PICK_BYTES;
 use printing::table_files::PICKS_ROOM;
 use printing::table_files::VALUE_BYTES;
 use printing::table_files::VALUES_ROOM;
 use printing::table_files::put_picks;
 use printing::table_files::put_values;
+use programs::PAGE;
 use programs::checked::states_in;
 use programs::files::are_names;
 use programs::files::fail;
@@ -316,28 +317,27 @@ fn save(name: &[u8], values: &[u32], name2: &[u8], picks: &[u16])
     place(name2, &second[..j]);
 }
 
-// Plans the input by a run of some kind, and saves its values and picks under two names. A file is at most 55,320 bytes long, and a longer
-// input gets the same answer as its first 65,536 bytes (`Plans`).
+// Plans the input by a run of some kind, and saves its values and picks under two names. One byte more than `plan` holds is read, which is
+// enough to refuse the input (`Plans`).
 fn plan_input(kind: Kind, is_saving: bool, name: &[u8], name2: &[u8])
     requires { ⌜ Named (now name) (now name2) ⌝ }
 {
-    let mut file = io::large_buffer();
-    let got = read_whole(STDIN_FILENO, &mut file);
+    let mut page = [0u8; PAGE];
+    let got = read_whole(STDIN_FILENO, &mut page);
     if got.failed {
         fail(b"plan", b"standard input");
         return;
     }
     let n = got.length;
-    if is_saving && !can_save(&file[..n], name, name2) {
+    if is_saving && n <= PLAN_HOLDS && !can_save(&page[..n], name, name2) {
         return;
     }
     let mut values = [0u32; MAX_STATES];
     let mut picks = [NO_PICK; MAX_STATES];
-    let mut out = [0u8; PLAN_ROOM];
-    let planned = programs::plan(kind, &file, n, &mut values, &mut picks, &mut out);
+    let planned = programs::plan(kind, &mut page, n, &mut values, &mut picks);
     let length = planned.length;
     let states = planned.states;
-    if !io::write_all(STDOUT_FILENO, &out[..length]) {
+    if !io::write_all(STDOUT_FILENO, &page[..length]) {
         fail(b"plan", b"standard output");
     }
     if is_saving && 0 < states {

@@ -51,7 +51,7 @@ fn put_three(out: &mut [u8], word: &[u8], a: u64, b: u64, c: u64) -> usize
 }
 
 // Puts the first line of `plan`: how the run ended, or the refusal.
-fn put_answer(out: &mut [u8], answer: SolveAnswer) -> usize
+pub fn put_answer(out: &mut [u8], answer: SolveAnswer) -> usize
     ensures { λ r. ⌜ Holds (now (out .entry)) (now (out .exit)) r (answerLine (answerOf answer)) ⌝ }
     ensures brief { λ r. ⌜ length (answerLine (answerOf answer)) ≤ lineMost ⌝ }
 {

@@ -1,34 +1,34 @@
 -- What a run that is no refusal says of its file, and the tables of a plan: questions 1 to 13 said yes, so the file is laid out and the
 -- tables have room for its states.
 use mathlib.Core.Path.{_≡_, refl, sym, _∙_, ap}
-use Prim.Native.Nat.{ℕ, _*_, _≤_, _<_}
-use native.Mathlib.Nat.{le-trans, min-le-right}
+use Prim.Native.Nat.{ℕ, _+_, _*_, _≤_, _<_}
+use native.Mathlib.Nat.{le-trans, le-of-eq, min-le-right}
 use native.Mathlib.Omega.{arith}
 use mathlib.Core.Bool.{true≢false}
-use mathlib.Core.List.{List, _++_}
-use lib.ListN.{length, take, replicate, length-take, length-replicate}
+use mathlib.Core.List.{List, _++_, append-nil}
+use lib.ListN.{length, take, length-take}
 use lib.Seq.{length-take-le, take-all}
+use borrow.Author.Tests.{le-leb, lt-leb}
 use Rattle.model.specs.Answers.{answerOf, solveCarries}
 use Rattle.model.specs.Audit.{Audited, audit}
 use Rattle.model.specs.Buffers.{Holds, ReadOf, lineMost, planRoom}
 use Rattle.model.specs.Carried.{Said}
-use Rattle.model.specs.Limits.{maxStates, maxRows, listEnd, planRounds}
-use Rattle.model.specs.Lines.{answerLine, runStates, runText, remaindersOf, planText, auditLine}
-use Rattle.model.specs.Promises.{planSolution, Plans, Audits}
-use Rattle.model.specs.Questions.{Verdict, passes, fails, fileQuestions, layoutQuestions}
+use Rattle.model.specs.Limits.{maxStates, inForce, planRounds, planHolds}
+use Rattle.model.specs.Lines.{answerLine, stateLines, runStates, runText, remaindersOf, planText, auditLine}
+use Rattle.model.specs.Promises.{planTables, planQuestion, heldOn, planSolution, Shown, Plans, Audits}
+use Rattle.model.specs.Questions.{Verdict, passes, fails, fileQuestions, fileQuestionsWithin, layoutQuestions}
 use Rattle.model.specs.Sections.{problemOf}
 use Rattle.model.specs.declared.Counts.{Counts}
 use Rattle.model.specs.declared.Kind.{Kind}
-use Rattle.model.specs.Solution.{Answer, solved, spent, refused, Tables, tables, solution}
+use Rattle.model.specs.Solution.{Answer, solved, spent, refused, Tables, tables, Solution, solution}
 use Rattle.model.specs.TableFiles.{entries16, entries32}
 use Rattle.model.specs.Value.{byState}
 use Rattle.model.specs.declared.SolveAnswer.{SolveAnswer}
 use Rattle.model.specs.declared.SolveAnswer.the-variants.{Solved, Spent, Refused}
 use Rattle.guarantee.specs.Listings.{lines-pick}
-use Rattle.guarantee.specs.Prefixes.{longestFile, questions-front, solution-front, plan-front, states-front}
-use Rattle.guarantee.specs.Prefixes.{audit-tables-front, audit-buffers}
+use Rattle.guarantee.specs.Prefixes.{longestFile, read-short, read-full, audit-tables-front, audit-buffers}
 use Rattle.guarantee.specs.Searches.{then-first}
-use Rattle.guarantee.specs.Solutions.{Told, turned-down, ran, told, lent-long, lent-passes, refused-by}
+use Rattle.guarantee.specs.Solutions.{Told, turned-down, ran, told, lent-long, plan-lent, refused-by}
 use Rattle.guarantee.specs.WellFormed.{well-formed}
 use Rattle.printing.specs.Texts.{Brief}
 use Rattle.writing.specs.Putting.{same, uncut}
@@ -38,7 +38,7 @@ use Rattle.programs.proofs.Remaining.{table-entry, line-remainder, line
 
 module _ {f : List ℕ} {a : Answer} (s : AnswerFor f a) where
   run-passes : ((q i : ℕ) → a ≡ refused q i → ⊥) → layoutQuestions f ≡ passes
-  unfolding fileQuestions
+  unfolding fileQuestionsWithin
   run-passes never = go (told (s .kind) f (s .budget) (s .lent))
     where
       go : Told (s .kind) f (s .budget) (s .lent) → layoutQuestions f ≡ passes
@@ -103,31 +103,24 @@ run-said (Solved counts) n h e = absurd (true≢false (cc))
 run-said (Spent counts) n h e = absurd (true≢false (cc))
 run-said (Refused q i) n h e = omega arith
 
--- the tables of `plan`
-abbrev planTables : List ℕ → List ℕ → Tables
-planTables values picks = tables values picks (replicate maxRows 0) (replicate maxStates listEnd)
+-- what `plan` solves where it holds the input
+abbrev heldSolution : Kind → (f values picks : List ℕ) → Solution
+heldSolution kind f values picks = solution kind f planRounds (planTables inForce values picks)
 
 -- tables of as many entries as a file can have states, and the tables of the program's own, are refused no file
 refused-by-file
     : (kind : Kind) (f values picks : List ℕ) → length values ≡ maxStates → length picks ≡ maxStates → (q i : ℕ)
-    → planSolution kind f values picks .answer ≡ refused q i → fileQuestions f ≡ fails q i
+    → heldSolution kind f values picks .answer ≡ refused q i → fileQuestions f ≡ fails q i
 refused-by-file kind f values picks v p q i h = go (fileQuestions f) refl
   where
     t : Tables
-    t = planTables values picks
+    t = planTables inForce values picks
 
     go : (said : Verdict) → fileQuestions f ≡ said → fileQuestions f ≡ fails q i
     go passes e =
         let formed = well-formed f e in
         let lent =
-        lent-passes (problemOf f) planRounds t
-        (record {
-          values-long = omega (arith, formed .states-high);
-          picks-long = omega (arith, formed .states-high);
-          remembered-long = omega (arith, formed .rows-high, length-replicate {A = ℕ} maxRows 0);
-          list-long = omega (arith, formed .states-high, length-replicate {A = ℕ} maxStates listEnd);
-          budget-high = omega arith;
-        }) in
+        plan-lent inForce (problemOf f) values picks (formed .states-high) (formed .rows-high) (le-of-eq (sym v)) (le-of-eq (sym p)) in
         let failed = refused-by kind f planRounds t q i h .failed in
         let never : passes ≡ fails q i = rw (e, lent) at failed in
         absurd (true≢false (cc))
@@ -135,17 +128,17 @@ refused-by-file kind f values picks v p q i h = go (fileQuestions f) refl
 
 -- what was put is the text of the plan
 module _ (kind : Kind) (f values picks : List ℕ) {values′ picks′ remembered′ walk′ : List ℕ} {a : Answer} {k : ℕ}
-    (answer-is : a ≡ planSolution kind f values picks .answer)
-    (left-is : tables values′ picks′ remembered′ walk′ ≡ planSolution kind f values picks .tables)
+    (answer-is : a ≡ heldSolution kind f values picks .answer)
+    (left-is : tables values′ picks′ remembered′ walk′ ≡ heldSolution kind f values picks .tables)
     (e : k ≡ runStates a (problemOf f .states)) (within : k ≤ length walk′)
     {remainders : List ℕ} (remainders-are : RemaindersTo f values′ picks′ k remainders) where
   abbrev put-text : List ℕ
   put-text = runText a values′ picks′ (byState remainders) (take k walk′) (length (take k walk′))
 
-  text-is : put-text ≡ planText (problemOf f) (planSolution kind f values picks)
+  text-is : put-text ≡ planText (problemOf f) (heldSolution kind f values picks)
   unfolding planText
   text-is =
-      let s = planSolution kind f values picks in
+      let s = heldSolution kind f values picks in
       let t = s .tables in
       let v : values′ ≡ t .values = ap (λ t. t .values) left-is in
       let p : picks′ ≡ t .picks = ap (λ t. t .picks) left-is in
@@ -159,11 +152,12 @@ module _ (kind : Kind) (f values picks : List ℕ) {values′ picks′ remembere
       (λ q l h. table-entry filled q few l ∙ line-remainder f (t .values) _ q (lines-pick kind f planRounds _ q (l, h))) in
       rw (length-take-le k walk′ within, same, answer-is, v, p, w) (ap (λ l. answerLine (s .answer) ++ l) lines)
 
-  pub plans
+  shown
       : {out out′ : List ℕ} {size : ℕ} → length values ≡ maxStates → length picks ≡ maxStates → planRoom ≤ length out
       → length values′ ≡ length values → length picks′ ≡ length picks → Holds out out′ size put-text
-      → Brief put-text (length (take k walk′)) → Plans kind f values picks out values′ picks′ out′ size k
-  plans {out} {out′} {size} v p wide lv lp text short =
+      → Brief put-text (length (take k walk′))
+      → Shown (problemOf f) (heldSolution kind f values picks) (fileQuestions f) out values′ picks′ out′ size k
+  shown {out} {out′} {size} v p wide lv lp text short =
       let room = run-room kind f planRounds answer-is e in
       let size-is = length-take-le k walk′ within in
       let fits = rw text-is at (short (omega (arith, size-is, room .few))) in
@@ -179,6 +173,13 @@ module _ (kind : Kind) (f values picks : List ℕ) {values′ picks′ remembere
         picks-hold = omega (arith, room .picks-room, lp);
       }
 
+  pub plans
+      : {out out′ : List ℕ} {size : ℕ} → planQuestion f ≡ passes → length values ≡ maxStates → length picks ≡ maxStates
+      → planRoom ≤ length out → length values′ ≡ length values → length picks′ ≡ length picks → Holds out out′ size put-text
+      → Brief put-text (length (take k walk′)) → Plans kind f values picks out values′ picks′ out′ size k
+  unfolding heldOn
+  plans held v p wide lv lp text short = rw held (shown v p wide lv lp text short)
+
 -- what was read may be all that there was
 pub read-all : (buffer : List ℕ) (n : ℕ) → ReadOf (take n buffer) buffer n
 read-all buffer n = take-all (length buffer) (take n buffer) (rw (length-take n buffer) (min-le-right n (length buffer)))
@@ -188,26 +189,41 @@ pub read-front
     : (f buffer : List ℕ) {bytes : List ℕ} (n : ℕ) {N : ℕ} → length buffer ≡ N → ReadOf f buffer n → bytes ≡ take n buffer → bytes ≡ take N f
 read-front f buffer n long read is = rw (← long) (is ∙ sym read)
 
--- what was read of an input has the plan of the whole input
-pub plans-read
-    : (f : List ℕ) {kind : Kind} {bytes values picks out values′ picks′ out′ : List ℕ} {N size states : ℕ} → longestFile < N
-    → bytes ≡ take N f
+-- where so little was read of an input that `plan` holds it, that is the whole input, and its plan
+pub held-plans
+    : (kind : Kind) (f page values picks : List ℕ) (n : ℕ) {bytes out values′ picks′ out′ : List ℕ} {size states : ℕ} → n ≤ planHolds
+    → length page ≡ planHolds + 1 → ReadOf f page n → bytes ≡ take n page
     → Plans kind bytes values picks out values′ picks′ out′ size states → Plans kind f values picks out values′ picks′ out′ size states
-plans-read f {kind} {bytes} {values} {picks} {N = N} long same h =
-    let t = planTables values picks in
-    let k = rw same at h in
-    let text = plan-front N f long kind planRounds t in
-    let left = ap (λ x. x .tables) (solution-front N f long kind planRounds t) in
+held-plans kind f page values picks n few long read is h =
+    let whole = is ∙ sym (read-short f page n read (omega arith)) in rw whole at h
+
+pub held-passes : (page : List ℕ) {bytes : List ℕ} (n : ℕ) → n ≤ planHolds → bytes ≡ take n page → planQuestion bytes ≡ passes
+held-passes page {bytes} n few is =
+    rw (le-leb (length bytes) planHolds (rw is (omega (arith, length-take n page)))) refl
+
+-- a buffer with a byte more than `plan` holds is full: the input is longer than that
+pub not-held : (f page : List ℕ) (n : ℕ) → planHolds < n → length page ≡ planHolds + 1 → ReadOf f page n → planQuestion f ≡ fails 25 0
+not-held f page n more long read =
+    let size = ap length (read-full f page n read (omega arith)) in
+    rw (lt-leb (length f) planHolds (omega (arith, size, length-take (length page) f))) refl
+
+-- what was put of the refusal is the text of the plan
+pub longer-plans
+    : (kind : Kind) (f values picks : List ℕ) {out out′ : List ℕ} {size : ℕ} → planQuestion f ≡ fails 25 0
+    → Holds out out′ size (answerLine (refused 25 0)) → length (answerLine (refused 25 0)) ≤ lineMost → lineMost ≤ length out
+    → Plans kind f values picks out values picks out′ size 0
+unfolding heldOn planText stateLines runStates
+longer-plans kind f values picks longer put brief wide =
+    let text : answerLine (refused 25 0) ≡ planText (problemOf f) (planSolution kind f values picks) = rw longer (sym (append-nil _)) in
     record {
-      text = rw text at (k .text);
-      whole = k .whole ∙ text;
-      values-are = k .values-are ∙ ap (λ x. x .values) left;
-      picks-are = k .picks-are ∙ ap (λ x. x .picks) left;
-      refused-by = λ q i e.
-          sym (questions-front N f long) ∙ k .refused-by q i (ap (λ x. x .answer) (solution-front N f long kind planRounds t) ∙ e);
-      states-are = k .states-are ∙ states-front N f long kind planRounds t;
-      values-hold = k .values-hold;
-      picks-hold = k .picks-hold;
+      text = same text put;
+      whole = uncut put (le-trans brief wide) ∙ text;
+      values-are = rw longer refl;
+      picks-are = rw longer refl;
+      refused-by = rw longer (λ q i e. cc);
+      states-are = rw longer refl;
+      values-hold = omega arith;
+      picks-hold = omega arith;
     }
 
 -- what was read of three inputs has the audit of the whole inputs: the file, and the entries of each table as far as there are states

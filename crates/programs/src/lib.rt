@@ -8,18 +8,20 @@ use crate::remainders::remainders_of;
 use model::Kind;
 use model::LINE_MOST;
 use model::LIST_END;
+use model::LONGEST_FILE;
 use model::MAX_ROWS;
 use model::MAX_STATES;
-use model::PLAN_ROOM;
+use model::PLAN_HOLDS;
 use model::PLAN_ROUNDS;
 use model::SolveAnswer;
 use printing::lines::audit_text;
 use printing::lines::plan_text;
+use printing::lines::put_answer;
 use printing::table_files::PICKS_ROOM;
 use printing::table_files::VALUES_ROOM;
 use printing::table_files::picks_of;
 use printing::table_files::values_of;
-use reading::index::INDEX;
+use reading::index::large_index;
 use reading::layout::layout_of;
 use solving::solve::solve_file;
 ghost use mathlib.Core.Path.{_≡_};
@@ -35,8 +37,11 @@ ghost use Rattle.model.specs.Solution.{tables};
 ghost use Rattle.programs.specs.AnswerFor.{AnswerFor};
 ghost use Rattle.programs.specs.Remainders.{RunDone};
 
-// Room for the bytes of every problem file that passes, and more: a longer input is refused as its front is.
-pub const FILE_ROOM: usize = 65536;
+// Room for the longest problem file, and for a byte more: a longer file is refused as its front is.
+pub const FILE_ROOM: usize = LONGEST_FILE + 1;
+
+// Room for as much as `plan` holds, and for a byte more, which shows that there was more. It has room for the text of every plan.
+pub const PAGE: usize = PLAN_HOLDS + 1;
 
 // How many bytes the text of a plan has, and how many states the file; 0 states where it is refused.
 pub struct Planned {
@@ -82,7 +87,8 @@ struct Ran {
     remainders: [u16; MAX_STATES],
 }
 
-// Solves a file with the rounds that `plan` has. The remainders are those under the values that the run left.
+// Solves a file with the rounds that `plan` has. The remainders are those under the values that the run left. A program runs once, so
+// that its index is the large one for every file.
 fn run(
     kind: Kind,
     file: &[u8],
@@ -96,7 +102,7 @@ fn run(
         kind (now (file .entry)) (tables (now (values .entry)) (now (picks .entry)) (now (remembered .entry)) (now (walk .entry)))
         (tables (now (values .exit)) (now (picks .exit)) (now (remembered .exit)) (now (walk .exit))) r ⌝ }
 {
-    let mut index = [0u32; INDEX];
+    let mut index = large_index();
     let answer = solve_file(
         kind,
         file,
@@ -116,27 +122,34 @@ fn run(
     }
 }
 
-// Plans an input of which `read` bytes are in `file`, by a run of some kind: its text stands at the front of `out`, its tables in `values` and
-// `picks`.
+// Plans an input of which `read` bytes are on `page`, by a run of some kind: its text takes the input's place, its tables are in `values`
+// and `picks`. An input that is longer than `plan` holds is refused (25).
 pub fn plan(
     kind: Kind,
-    file: &[u8; FILE_ROOM],
+    page: &mut [u8; PAGE],
     read: usize,
     values: &mut [u32; MAX_STATES],
     picks: &mut [u16; MAX_STATES],
-    out: &mut [u8; PLAN_ROOM],
 ) -> Planned
     ensures { λ r.
-        ⌜ ((f : List ℕ) → ReadOf f (now (file .entry)) read →
+        ⌜ ((f : List ℕ) → ReadOf f (now (page .entry)) read →
         Plans
-        kind f (now (values .entry)) (now (picks .entry)) (now (out .entry)) (now (values .exit)) (now (picks .exit))
-        (now (out .exit)) (r .length) (r .states)) ⌝ }
+        kind f (now (values .entry)) (now (picks .entry)) (now (page .entry)) (now (values .exit)) (now (picks .exit))
+        (now (page .exit)) (r .length) (r .states)) ⌝ }
 {
+    if PLAN_HOLDS < read {
+        let answer = SolveAnswer::Refused {
+            question: 25,
+            place: 0,
+        };
+        let length = put_answer(page, answer);
+        return Planned { length, states: 0 };
+    }
     let mut remembered = [0u32; MAX_ROWS];
     let mut walk = [LIST_END; MAX_STATES];
     let ran = run(
         kind,
-        front(file, read),
+        front(page, read),
         values,
         picks,
         &mut remembered,
@@ -149,7 +162,7 @@ pub fn plan(
         picks,
         &ran.remainders,
         &walk[..states],
-        out,
+        page,
     );
     Planned { length, states }
 }

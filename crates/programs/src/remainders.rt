@@ -1,6 +1,5 @@
 // The remainders of a plan: what rounding took away from the value of each state's pick, under the values that the run left.
 use model::MAX_STATES;
-use reading::index::INDEX;
 use reading::layout::layout_of;
 use reading::value::row_value;
 ghost use mathlib.Core.Path.{_≡_};
@@ -11,7 +10,7 @@ ghost use Rattle.model.specs.Rounds.{fillTo};
 ghost use Rattle.programs.specs.Remainders.{PicksReady, RunReady, RemaindersTo, remainderWithin, remainderAt};
 
 // The remainder of a pick under `values`, 0 where it is none of the rows.
-fn pick_remainder(file: &[u8], index: &[u32; INDEX], values: &[u32], rows: usize, pick: u16) -> u16
+fn pick_remainder(file: &[u8], index: &[u32], values: &[u32], rows: usize, pick: u16) -> u16
     requires { ⌜ PicksReady (now file) (now index) (now values) rows ⌝ }
     ensures { λ r. ⌜ r ≡ remainderWithin (now (file .entry)) (now (values .entry)) pick ⌝ }
 {
@@ -26,7 +25,7 @@ fn pick_remainder(file: &[u8], index: &[u32; INDEX], values: &[u32], rows: usize
 // Puts the remainder of the pick at each of the first n states at the front of `remainders`.
 fn put_remainders(
     file: &[u8],
-    index: &[u32; INDEX],
+    index: &[u32],
     values: &[u32],
     picks: &[u16],
     rows: usize,
@@ -48,7 +47,7 @@ fn put_remainders(
 // The remainder of the pick at each of the n states of a run, and 0 for the states beyond; n is 0 where there was no run.
 pub fn remainders_of(
     file: &[u8],
-    index: &[u32; INDEX],
+    index: &[u32],
     values: &[u32],
     picks: &[u16],
     n: usize,

@@ -3,6 +3,7 @@ pub mod Bounds
 pub mod Tests
 pub mod Laid
 pub mod Ready
+pub mod Room
 pub mod Begins
 pub mod RowParts
 pub mod Fields

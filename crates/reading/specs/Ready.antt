@@ -11,7 +11,7 @@ use Rattle.model.specs.Search.{oneOf}
 use Rattle.model.specs.Sections.{problemOf, outcomeAt, outcomeCountOf}
 use Rattle.model.specs.Questions.{passes, layoutQuestions, undercutState, undercutRow}
 use Rattle.model.specs.Value.{rowTicks}
-use Rattle.reading.specs.Tests.{rowsBase, indexSize}
+use Rattle.reading.specs.Tests.{rowsBase, indexFor}
 use Rattle.reading.specs.Fields.{Within}
 use Rattle.reading.specs.Bounds.{maxByte}
 
@@ -20,7 +20,7 @@ use Rattle.reading.specs.Bounds.{maxByte}
 pub record Indexed (f index : List ℕ) : Type 0 where
   pub whole : layoutQuestions f ≡ passes
   pub within : Within f
-  pub size : length index ≡ indexSize
+  pub size : indexFor (problemOf f .rows) ≤ length index
   pub first-row : (s : ℕ) → s ≤ problemOf f .states → getD index s 0 ≡ problemOf f .firstRow s
   pub outcomes-at : (r : ℕ) → r ≤ problemOf f .rows → getD index (rowsBase + 2 * r) 0 ≡ outcomeAt f r
   pub ticks : (r : ℕ) → r < problemOf f .rows → getD index (rowsBase + 2 * r + 1) 0 ≡ rowTicks (problemOf f) r

@@ -1,7 +1,7 @@
 -- The file's items as the loops read them, at places counted from where a section's items begin, and the entries of the index.
 use mathlib.Core.Path.{_≡_}
 use Prim.Native.Nat.{ℕ, zero, suc, _+_, _-_, _*_, _/_}
-use mathlib.Core.Bool.{Bool, _&&_}
+use mathlib.Core.Bool.{Bool, _&&_, _||_}
 use mathlib.Core.List.{List}
 use lib.Dec.{leb, ltb, eqb}
 use lib.ListN.{length, getD, set, take, drop}
@@ -10,7 +10,7 @@ use Rattle.model.specs.Limits.{maxStates, maxRows, ticksPerSecond}
 use Rattle.model.specs.Problem.{Outcome}
 use Rattle.model.specs.Questions.{rowObeys}
 use Rattle.model.specs.Search.{sumTo}
-use Rattle.model.specs.Sections.{outcomesFrom, outcomeAt, outcomeCountOf, secondsOn}
+use Rattle.model.specs.Sections.{statesAt, rowsAt, outcomesFrom, outcomeAt, outcomeCountOf, secondsOn}
 
 -- of the states whose bytes begin at i: the number of rows
 abbrev pub rowCountAt : List ℕ → ℕ → ℕ → ℕ
@@ -26,12 +26,28 @@ outcomeCountAt f i = λ r. getD f (i + 4 * r + 1) 0
 abbrev pub ticksAt : List ℕ → ℕ → ℕ → ℕ
 ticksAt f i = λ r. ticksPerSecond * secondsOn (eqb (getD f (i + 4 * r) 0) 0) (u16At f (i + 4 * r + 2))
 
--- where the entries of the rows begin in the index, and how many entries it has
+-- where the entries of the rows begin in the index, and how many entries it has for so many rows
 abbrev pub rowsBase : ℕ
 rowsBase = maxStates + 1
 
+abbrev pub indexFor : ℕ → ℕ
+indexFor rows = rowsBase + 2 * rows + 2
+
+-- the index of any file, and that of a file of few rows
 abbrev pub indexSize : ℕ
-indexSize = rowsBase + 2 * maxRows + 2
+indexSize = indexFor maxRows
+
+abbrev pub smallRows : ℕ
+smallRows = 512
+
+abbrev pub smallIndex : ℕ
+smallIndex = indexFor smallRows
+
+-- whether a file has few rows; of one whose counts are not all there, up to that of the rows, no row is looked at
+unfoldable pub fewRows : List ℕ → Bool
+fewRows f =
+    ltb (length f) 2
+    || (ltb (length f) (statesAt f + 2) || (ltb (length f) (rowsAt f + 2) || leb (u16At f (rowsAt f)) smallRows))
 
 -- whether row r is one of state s's own: between its first row and the next state's
 abbrev pub ownAt : List ℕ → ℕ → ℕ → Bool

@@ -1,5 +1,4 @@
 // The row value, and the first row whose value lies below its state's.
-use crate::index::INDEX;
 use crate::index::ROWS;
 use crate::numbers::u16_at;
 use crate::settings::total_of;
@@ -86,7 +85,7 @@ pub struct RowValue {
 }
 
 // The value of row r under `values`: its cost in ticks and the weighted sum, divided by W once; and the remainder.
-pub fn row_value(file: &[u8], index: &[u32; INDEX], values: &[u32], r: usize) -> RowValue
+pub fn row_value(file: &[u8], index: &[u32], values: &[u32], r: usize) -> RowValue
     requires { ⌜ RowReady (now file) (now index) (length (now values)) r ⌝ }
     ensures { λ q. ⌜ q .value ≡ rowValue (problemOf (now (file .entry))) (byState (now (values .entry))) r ⌝ }
     ensures remainder { λ q. ⌜ q .remainder ≡ rowRemainder (problemOf (now (file .entry))) (byState (now (values .entry))) r ⌝ }
@@ -103,7 +102,7 @@ pub fn row_value(file: &[u8], index: &[u32; INDEX], values: &[u32], r: usize) ->
 }
 
 // Whether the value of row r lies below `value`. It is at least the row's cost, so a `value` up to that needs no sum.
-fn undercuts(file: &[u8], index: &[u32; INDEX], values: &[u32], value: u64, r: usize) -> bool
+fn undercuts(file: &[u8], index: &[u32], values: &[u32], value: u64, r: usize) -> bool
     requires { ⌜ RowReady (now file) (now index) (length (now values)) r ⌝ }
     ensures { λ q. ⌜ q ≡ ltb (rowValue (problemOf (now (file .entry))) (byState (now (values .entry))) r) value ⌝ }
 {
@@ -122,7 +121,7 @@ pub struct Undercut {
 }
 
 // "It stops at the first row, states in order, whose value lies below its state's"; state n and row 0 where there is none.
-pub fn first_undercut(file: &[u8], index: &[u32; INDEX], values: &[u32], n: usize) -> Undercut
+pub fn first_undercut(file: &[u8], index: &[u32], values: &[u32], n: usize) -> Undercut
     requires { ⌜ (Ready (now file) (now index)) × (n ≡ problemOf (now file) .states) × (n ≤ length (now values)) ⌝ }
     ensures { λ u. ⌜ Undercuts (now (file .entry)) (byState (now (values .entry))) (u .state) (u .row) ⌝ }
 {

@@ -1,7 +1,7 @@
 -- From the questions to the answer: what questions 1 to 13 give, how the tables begin, and that a run's end is the solution.
 -- The check of question 14 never says no, so the solution is that of the run without it.
 use mathlib.Core.Path.{_≡_, refl, sym, _∙_, ap, subst}
-use Prim.Native.Nat.{ℕ, _<_}
+use Prim.Native.Nat.{ℕ, _≤_, _<_}
 use native.Mathlib.Omega.{arith}
 use mathlib.Core.Bool.{Bool, true, false}
 use mathlib.Core.List.{List, []}
@@ -16,7 +16,7 @@ use Rattle.model.specs.Sections.{problemOf}
 use Rattle.model.specs.Value.{rowValue, byState}
 use Rattle.model.specs.Rounds.{Machine, runFrom, goesOn, runOf, fillTo, machineStart, listTable}
 use Rattle.model.specs.declared.Kind.{Kind}
-use Rattle.model.specs.Solution.{Tables, tables, fine, solutionOf, solveQuestions, solution}
+use Rattle.model.specs.Solution.{Tables, tables, fine, solutionOf, solutionOfWith, solveQuestions, solution}
 use Rattle.guarantee.specs.WellFormed.{WellFormed}
 use Rattle.guarantee.specs.WellFormed.{well-formed}
 use Rattle.guarantee.specs.Values.{rowValue-same-states}
@@ -28,7 +28,7 @@ use Rattle.backing.specs.Backable.{machine, Scannable}
 use Rattle.solving.specs.declared.run.Ended.{Ended}
 use Rattle.solving.specs.Runs.{machineWith, endedAs, Runnable, Ran}
 use Rattle.solving.specs.Solvable.{solveTests, runCarries, Solvable}
-use Rattle.solving.proofs.Filling.{fill-same, list-table-same}
+use Rattle.solving.proofs.Filling.{fill-same}
 
 -- the machine as it starts in lent tables
 abbrev start : List ℕ → Tables → Machine
@@ -96,17 +96,17 @@ module _ {f index : List ℕ} {budget : ℕ} {t : Tables} {states rows : ℕ} {v
       h .kept ∙ rw (h .rows-count) (fill-same _ _ (t .remembered) (problemOf f .rows) under-estimates) in
       rw (same, h .filled, h .cleared, h .states-count) refl
 
-  pub start-runnable : Runnable f index (tables values′ picks′ remembered′ (t .walk-list))
-  start-runnable =
+  pub start-runnable : {list : List ℕ} → problemOf f .states ≤ length list → Runnable f index (tables values′ picks′ remembered′ list)
+  start-runnable list-long =
       record {
         walkable = walkable (h .solvable .file-passes) (h .solvable .ready);
         sound = subst (Sound (problemOf f)) (sym begun) (lent-sound f budget t (h .solvable .file-passes) (h .solvable .tables-pass));
-        list-long = long (h .solvable) .list-long;
+        list-long = list-long;
       }
 
-  -- the run's end, once the walk list is ended
-  module _ {kind : Kind} {e : ℕ} {t″ : Tables} {d : Ended} (tolerance : e ≡ problemOf f .tolerance)
-      (ran : Ran kind (problemOf f) e budget (tables values′ picks′ remembered′ (t .walk-list)) t″ d) where
+  -- the run's end, once the lent walk list has what the run listed
+  module _ {kind : Kind} {e : ℕ} {list : List ℕ} {t″ : Tables} {d : Ended} (tolerance : e ≡ problemOf f .tolerance)
+      (ran : Ran kind (problemOf f) e budget (tables values′ picks′ remembered′ list) t″ d) where
     abbrev last : Machine
     last = machineWith t″ (take (d .listed) (t″ .walk-list)) (d .counts .evaluations) (ran .moved)
 
@@ -124,18 +124,15 @@ module _ {f index : List ℕ} {budget : ℕ} {t : Tables} {states rows : ℕ} {v
         ∙ ap (λ r. solutionOf (problemOf f) (t .walk-list) (fine r)) run-is
 
     pub run-leaves
-        : {carried : Carried} {list‴ : List ℕ} → list‴ ≡ listTable states (take (d .listed) (t″ .walk-list)) (t″ .walk-list)
+        : {carried : Carried} {list‴ : List ℕ} → list‴ ≡ listTable states (take (d .listed) (t″ .walk-list)) (t .walk-list)
         → carried ≡ runCarries (d .solved) (d .counts)
         → Leaves carried (tables (t″ .values) (t″ .picks) (t″ .remembered) list‴) (solution kind f budget t)
-    unfolding solutionOf
-    run-leaves {carried} {list‴} padded carries =
+    unfolding solutionOfWith
+    run-leaves {carried} {list‴} put carries =
         rw solution-is (go (d .solved) refl carries)
       where
         same-list : list‴ ≡ listTable (problemOf f .states) (take (d .listed) (t″ .walk-list)) (t .walk-list)
-        same-list =
-            padded
-            ∙ rw (h .states-count)
-            (list-table-same (problemOf f .states) (take (d .listed) (t″ .walk-list)) (t .walk-list) (t″ .walk-list) (ran .beyond))
+        same-list = put ∙ rw (h .states-count) refl
 
         go : (b : Bool) → d .solved ≡ b → carried ≡ runCarries b (d .counts)
             → Leaves carried (tables (t″ .values) (t″ .picks) (t″ .remembered) list‴)

@@ -1,4 +1,4 @@
--- Laws of the lent tables: tables filled from the front, and the end of the walk list.
+-- Laws of the lent tables: tables filled from the front, and what the walk list gets.
 -- A filled table hangs on the filling values below its count only; a padded list is its front, the mark of its end, and
 -- what stood beyond.
 use mathlib.Core.Path.{_≡_, refl, sym, _∙_, subst}
@@ -6,11 +6,12 @@ use Prim.Native.Nat.{ℕ, zero, suc, _+_, _-_, _≤_, _<_}
 use native.Mathlib.Omega.{arith}
 use mathlib.Core.List.{List, _++_}
 use lib.ListN.{length, set, take, drop, replicate, length-set, take-append-drop, length-drop}
-use lib.Seq.{length-take-le, take-set-le, drop-set-add, drop-drop}
+use lib.Seq.{length-take-le, take-set-le, drop-set-add, drop-set-lt, drop-drop, set-getD}
 use borrow.Author.Fill.{fill-none, fill-more}
 use Rattle.model.specs.Limits.{listEnd}
 use Rattle.model.specs.Rounds.{fillTo, listTable}
-use Rattle.guarantee.specs.Tables.{fill-next}
+use Rattle.model.specs.Value.{byState}
+use Rattle.guarantee.specs.Tables.{fill-next, fill-front}
 
 -- filling with the same values gives the same table
 pub fill-same : (g h : ℕ → ℕ) (l : List ℕ) (k : ℕ) → ((j : ℕ) → j < k → g j ≡ h j) → fillTo g l k ≡ fillTo h l k
@@ -77,7 +78,24 @@ module _ {l₀ : List ℕ} {k n : ℕ} {l : List ℕ} {i : ℕ} (h : Padded l₀
       let at : k + (n - k) ≡ n = omega (arith, h .low, h .high) in
       sym (take-append-drop k l) ∙ rw (h .front, h .back, same, size, drop-drop, at) refl
 
--- what ends a list hangs on what stood beyond the number of states only
-pub list-table-same : (n : ℕ) (list l l′ : List ℕ) → drop n l′ ≡ drop n l → listTable n list l′ ≡ listTable n list l
+-- a table filled with its own entries is as it was
+fill-own : (l : List ℕ) (k : ℕ) → fillTo (byState l) l k ≡ l
+unfolding fillTo
+fill-own l zero = refl
+fill-own l (suc k) = rw (fill-own l k) (set-getD l k 0)
+
+-- what stands beyond what is filled stays
+fill-rest : (g : ℕ → ℕ) (l : List ℕ) (k n : ℕ) → k ≤ n → drop n (fillTo g l k) ≡ drop n l
+unfolding fillTo
+fill-rest g l zero n h = refl
+fill-rest g l (suc k) n h = drop-set-lt n (fillTo g l k) k (g k) (omega arith) ∙ fill-rest g l k n (omega arith)
+
+-- the first k entries of a, copied to the front of l, which is then ended: the list of those entries in l
+pub copied-ends
+    : (n k : ℕ) (a l l′ : List ℕ) → k ≤ n → n ≤ length a → n ≤ length l → l′ ≡ fillTo (byState a) l k
+    → listTable n (take k l′) l′ ≡ listTable n (take k a) l
 unfolding listTable
-list-table-same n list l l′ e = rw e refl
+copied-ends n k a l l′ h long room copied =
+    let front : take k l′ ≡ take k a =
+    rw copied (fill-front (byState a) l a k (omega arith) (omega arith) ∙ rw (fill-own a k) refl) in
+    rw (front, copied, fill-rest (byState a) l k n h) refl

@@ -8,14 +8,14 @@ use mathlib.Core.Bool.{Bool, true, false}
 use mathlib.Core.List.{List, []}
 use mathlib.Core.Logic.{_⊎_}
 use lib.Dec.{eqb}
-use lib.ListN.{getD, length, take, drop}
+use lib.ListN.{getD, take}
 use borrow.Author.Tests.{ne-eqb}
 use Rattle.model.specs.Limits.{giveUp, maxRows, maxBudget}
 use Rattle.model.specs.Problem.{Problem, ownRow}
 use Rattle.model.specs.Sections.{problemOf}
 use Rattle.model.specs.Value.{byState}
 use Rattle.model.specs.Walk.{Reached, walk, leastTo, leastCost}
-use Rattle.model.specs.Rounds.{Machine, backups, round, walked, Ending, runFrom, goesOn}
+use Rattle.model.specs.Rounds.{Machine, backups, round, roundWith, walked, Ending, runFrom, runFromWith, goesOn, goesOnWith}
 use Rattle.model.specs.Solution.{Tables, tables}
 use Rattle.model.specs.declared.Kind.{Kind}
 use Rattle.guarantee.specs.Accepted.{AcceptsWithin}
@@ -23,7 +23,6 @@ use Rattle.guarantee.specs.Sound.{Sound}
 use Rattle.guarantee.specs.Backups.{walk-opens, round-sound, run-stops}
 use Rattle.guarantee.specs.Evaluations.{round-count}
 use Rattle.guarantee.specs.Solved.{Still, round-still, resting-accepted}
-use Rattle.guarantee.specs.Tables.{same-further}
 use Rattle.guarantee.specs.Walks.{reached-state, reached-marked}
 use Rattle.walking.specs.Costs.{Costed}
 use Rattle.walking.specs.Walked.{Walked, walked-start, walked-costed, walked-least}
@@ -39,11 +38,11 @@ module _ {f index : List ℕ} {t : Tables} (h : Runnable f index t) where
   runnable-backable = record { ready = h .walkable .ready; formed = h .walkable .formed; sound = h .sound }
 
   -- after the walk of a round
-  module _ {marks′ list′ : List ℕ} {r : ℕ} (w : Walked f (t .picks) (t .walk-list) marks′ list′ r) where
-    pub walk-listed : length list′ ≡ length (t .walk-list) → Listed f list′ r
-    walk-listed same-length =
+  module _ {marks′ list′ : List ℕ} {r : ℕ} (w : Walked f (t .picks) marks′ list′ r) where
+    pub walk-listed : Listed f list′ r
+    walk-listed =
         record {
-          long = omega (arith, w .few, h .list-long);
+          long = omega (arith, w .few, w .list-long);
           opens = λ s i. walk-opens p (h .walkable .formed) (byState (t .picks)) s (rw (w .list) at i);
         }
 
@@ -52,7 +51,7 @@ module _ {f index : List ℕ} {t : Tables} (h : Runnable f index t) where
     backed e count = backups p e (take r list′) (machineWith t (take r list′) count false)
 
     round-left : (e count : ℕ) (l : List ℕ) (b : Bool) → backed e count ≡ round p e (machineWith t l count b)
-    unfolding round
+    unfolding roundWith
     round-left e count l b = rw (w .list) refl
 
     pub round-room
@@ -111,14 +110,14 @@ module _ {f index : List ℕ} {t : Tables} (h : Runnable f index t) where
           least = least;
           no-least = no-least;
           few = rw listed (w .few);
-          beyond = same-further (t .walk-list) list′ r (p .states) (w .few) (w .rest);
+          list-long = w .list-long;
           fine = fine;
           no-row = no-row;
         }
 
 -- the loop over rounds: what is left of the run, of this part and of the other where it is to go on, gives w
 pub record RunLeft
-    (f index : List ℕ) (budget : ℕ) (w : Ending) (list₀ : List ℕ) (t : Tables) (goes-on : Bool) (e rounds count listed : ℕ) : Type 0 where
+    (f index : List ℕ) (budget : ℕ) (w : Ending) (t : Tables) (goes-on : Bool) (e rounds count listed : ℕ) : Type 0 where
   pub runnable : Runnable f index t
   pub within : rounds ≤ budget
   pub moved : Bool
@@ -128,12 +127,11 @@ pub record RunLeft
       ≡ w
   pub counted : count ≤ maxRows * rounds
   pub few : listed ≤ problemOf f .states
-  pub beyond : drop (problemOf f .states) (t .walk-list) ≡ drop (problemOf f .states) list₀
 
 pub run-starts
     : {f index : List ℕ} {t : Tables} {e budget : ℕ} {b : Bool} → Runnable f index t
     → RunLeft f index budget (goesOn (goingOn b) (problemOf f) budget (runFrom (problemOf f) e budget true 0 (machineWith t [] 0 true)))
-    (t .walk-list) t b e 0 0 0
+    t b e 0 0 0
 run-starts {budget = budget} h =
     let z : budget - 0 ≡ budget = omega arith in
     record {
@@ -143,7 +141,6 @@ run-starts {budget = budget} h =
       left = rw z refl;
       counted = omega arith;
       few = omega arith;
-      beyond = refl;
     }
 
 pub of-kind
@@ -154,11 +151,11 @@ of-kind p budget end {w = w} same h = subst (λ k. goesOn k p budget end ≡ w) 
 one-round
     : (p : Problem) (e k j n : ℕ) (m : Machine) → j ≡ suc k
     → runFrom p e j true n m ≡ runFrom p e k (round p e m .moved) (n + 1) (round p e m)
-unfolding runFrom
+unfolding runFromWith
 one-round p e k j n m h = rw (h, add-one) refl
 
-module _ {f index : List ℕ} {budget : ℕ} {w : Ending} {list₀ : List ℕ} {t : Tables} {goes-on : Bool} {e rounds count listed : ℕ}
-    (h : RunLeft f index budget w list₀ t goes-on e rounds count listed) where
+module _ {f index : List ℕ} {budget : ℕ} {w : Ending} {t : Tables} {goes-on : Bool} {e rounds count listed : ℕ}
+    (h : RunLeft f index budget w t goes-on e rounds count listed) where
   -- under the largest budget there is room for what the next round counts
   pub next-round-room
       : rounds < budget → budget ≤ maxBudget → round (problemOf f) e (machineWith t [] count true) .evaluations < countBound
@@ -208,29 +205,26 @@ module _ {f index : List ℕ} {budget : ℕ} {w : Ending} {list₀ : List ℕ} {
 
     -- the next turn, once it is known what is left
     goes
-        : {b : Bool} {e′ : ℕ} (moved : Bool) → length (t′ .walk-list) ≡ length (t .walk-list)
+        : {b : Bool} {e′ : ℕ} (moved : Bool)
         → goesOn (goingOn b) (problemOf f) budget (runFrom (problemOf f) e′ (budget - (rounds + 1)) true (rounds + 1) (next moved)) ≡ w
-        → RunLeft f index budget w list₀ t′ b e′ (rounds + 1) (d .count) (d .listed)
-    goes moved long left =
+        → RunLeft f index budget w t′ b e′ (rounds + 1) (d .count) (d .listed)
+    goes moved left =
         record {
           runnable =
               record {
                 walkable = h .runnable .walkable;
                 sound = after-sound;
-                list-long = omega (arith, long, h .runnable .list-long);
+                list-long = r .list-long;
               };
           within = omega arith;
           moved = moved;
           left = left;
           counted = next-counted;
           few = r .few;
-          beyond = r .beyond ∙ h .beyond;
         }
 
-    pub run-goes-on
-        : d .moved ≡ true → length (t′ .walk-list) ≡ length (t .walk-list)
-        → RunLeft f index budget w list₀ t′ goes-on e (rounds + 1) (d .count) (d .listed)
-    run-goes-on moved long = goes true long (went-on true moved)
+    pub run-goes-on : d .moved ≡ true → RunLeft f index budget w t′ goes-on e (rounds + 1) (d .count) (d .listed)
+    run-goes-on moved = goes true (went-on true moved)
 
     -- a quiet round
     quiet : d .moved ≡ false → goesOn (goingOn goes-on) (problemOf f) budget (Ending.solved (rounds + 1) (next false)) ≡ w
@@ -239,18 +233,16 @@ module _ {f index : List ℕ} {budget : ℕ} {w : Ending} {list₀ : List ℕ} {
         (sym (run-stops (problemOf f) e (budget - (rounds + 1)) (rounds + 1) (next false)))
         ∙ went-on false still
 
-    pub part-ends
-        : d .moved ≡ false → goes-on ≡ true → length (t′ .walk-list) ≡ length (t .walk-list)
-        → RunLeft f index budget w list₀ t′ false 1 (rounds + 1) (d .count) (d .listed)
-    unfolding goesOn
-    part-ends still more long = goes false long (rw more at (quiet still))
+    pub part-ends : d .moved ≡ false → goes-on ≡ true → RunLeft f index budget w t′ false 1 (rounds + 1) (d .count) (d .listed)
+    unfolding goesOnWith
+    part-ends still more = goes false (rw more at (quiet still))
 
     pub run-solved : d .moved ≡ false → goes-on ≡ false → w ≡ endedAs true (rounds + 1) (next false)
-    unfolding goesOn
+    unfolding goesOnWith
     run-solved still last = sym (rw last at (quiet still))
 
   pub run-out-of-budget : budget ≤ rounds → w ≡ endedAs false rounds (machineWith t (take listed (t .walk-list)) count (h .moved))
-  unfolding runFrom goesOn
+  unfolding runFromWith goesOnWith
   run-out-of-budget l =
       let none : budget - rounds ≡ 0 = omega arith in
       sym (spent-stays goes-on _ _ ∙ rw none at (h .left))

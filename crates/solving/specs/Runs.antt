@@ -4,7 +4,7 @@ use mathlib.Core.Path.{_≡_}
 use Prim.Native.Nat.{ℕ, _≤_}
 use mathlib.Core.Bool.{Bool, true, false}
 use mathlib.Core.List.{List, []}
-use lib.ListN.{length, take, drop}
+use lib.ListN.{length, take}
 use Rattle.model.specs.Problem.{Problem, giveUpCost}
 use Rattle.model.specs.Sections.{problemOf}
 use Rattle.model.specs.Value.{byState}
@@ -40,14 +40,14 @@ pub record Given (p : Problem) (n cost : ℕ) : Type 0 where
   pub give : cost ≡ giveUpCost p
 
 -- a round done: the tables, the first `listed` entries of the walk list and the counts are those of the model's round;
--- where nothing moved C is that of the picks, else 0; no value was too large
+-- where nothing moved C is that of the picks, else 0; no value was too large; the list still has an entry for each state
 pub record Rounded (p : Problem) (e : ℕ) (t : Tables) (count : ℕ) (t′ : Tables) (r : RoundDone) : Type 0 where
   pub same : (l : List ℕ) (b : Bool)
       → machineWith t′ (take (r .listed) (t′ .walk-list)) (r .count) (r .moved) ≡ round p e (machineWith t l count b)
   pub least : r .moved ≡ false → r .least ≡ leastCost p (byState (t′ .picks))
   pub no-least : r .moved ≡ true → r .least ≡ 0
   pub few : r .listed ≤ p .states
-  pub beyond : drop (p .states) (t′ .walk-list) ≡ drop (p .states) (t .walk-list)
+  pub list-long : p .states ≤ length (t′ .walk-list)
   pub fine : r .over ≡ false
   pub no-row : r .row ≡ 0
 
@@ -66,6 +66,6 @@ pub record Ran (kind : Kind) (p : Problem) (e budget : ℕ) (t t′ : Tables) (r
   pub few : r .listed ≤ p .states
   pub least : r .solved ≡ true → r .counts .least ≡ leastCost p (byState (t′ .picks))
   pub no-least : r .solved ≡ false → r .counts .least ≡ 0
-  pub beyond : drop (p .states) (t′ .walk-list) ≡ drop (p .states) (t .walk-list)
+  pub list-long : p .states ≤ length (t′ .walk-list)
   pub fine : r .over ≡ false
   pub no-row : r .row ≡ 0

@@ -1,19 +1,20 @@
-// The lent tables: whether they are long enough, how they begin, and how the walk list ends.
+// The lent tables: whether they are long enough, how they begin, and what the walk list gets.
 // Entries beyond the file's states and rows are not touched.
 use model::FileAnswer;
 use model::LIST_END;
 use model::MAX_BUDGET;
 use model::NO_PICK;
-use reading::index::INDEX;
 use reading::value::row_value;
+use walking::walk::MARKS;
 ghost use mathlib.Core.Path.{_≡_};
 ghost use Prim.Native.Nat.{_≤_};
 ghost use lib.ListN.{length, take};
 ghost use Rattle.model.specs.Answers.{verdictOf};
-ghost use Rattle.model.specs.Limits.{noPick};
+ghost use Rattle.model.specs.Limits.{noPick, maxStates};
 ghost use Rattle.model.specs.Questions.{fails};
 ghost use Rattle.model.specs.Sections.{problemOf};
 ghost use Rattle.model.specs.Rounds.{fillTo, listTable};
+ghost use Rattle.model.specs.Value.{byState};
 ghost use Rattle.backing.specs.Backable.{valueUnder, Scannable};
 ghost use Rattle.solving.specs.Solvable.{solveTests};
 
@@ -67,7 +68,7 @@ pub fn no_picks(picks: &mut [u16], n: usize)
 }
 
 // "each row remembers its value": of the first n rows, under `values`.
-pub fn remember(file: &[u8], index: &[u32; INDEX], values: &[u32], remembered: &mut [u32], n: usize)
+pub fn remember(file: &[u8], index: &[u32], values: &[u32], remembered: &mut [u32], n: usize)
     requires { ⌜ Scannable (now file) (now index) (now values) (now remembered) × (n ≤ problemOf (now file) .rows) ⌝ }
     ensures { λ _.
         ⌜ now (remembered .exit)
@@ -81,8 +82,20 @@ pub fn remember(file: &[u8], index: &[u32; INDEX], values: &[u32], remembered: &
     }
 }
 
-// "the walk list ending in 65,535s up to the number of states", n: from entry k on.
-pub fn pad(list: &mut [u16], k: usize, n: usize)
+// The first k listed states, into the walk list.
+fn copy_listed(listed: &[u16; MARKS], k: usize, list: &mut [u16])
+    requires { ⌜ (k ≤ maxStates) × (k ≤ length (now list)) ⌝ }
+    ensures { λ _. ⌜ now (list .exit) ≡ fillTo (byState (now (listed .entry))) (now (list .entry)) k ⌝ }
+{
+    let mut i = 0;
+    while i < k {
+        list[i] = listed[i];
+        i += 1;
+    }
+}
+
+// "ending in 65,535s up to the number of states", n: from entry k on.
+fn pad(list: &mut [u16], k: usize, n: usize)
     requires { ⌜ (k ≤ n) × (n ≤ length (now list)) ⌝ }
     ensures { λ _. ⌜ now (list .exit) ≡ listTable n (take k (now (list .entry))) (now (list .entry)) ⌝ }
 {
@@ -91,4 +104,13 @@ pub fn pad(list: &mut [u16], k: usize, n: usize)
         list[i] = LIST_END;
         i += 1;
     }
+}
+
+// "the walk list ending in 65,535s up to the number of states", n: the k listed states, and then the ending.
+pub fn put_list(listed: &[u16; MARKS], k: usize, n: usize, list: &mut [u16])
+    requires { ⌜ (k ≤ n) × (n ≤ maxStates) × (n ≤ length (now listed)) × (n ≤ length (now list)) ⌝ }
+    ensures { λ _. ⌜ now (list .exit) ≡ listTable n (take k (now (listed .entry))) (now (list .entry)) ⌝ }
+{
+    copy_listed(listed, k, list);
+    pad(list, k, n);
 }

@@ -5,8 +5,8 @@ use backing::backup::Tally;
 use backing::backup::backups;
 use model::Counts;
 use model::Kind;
-use reading::index::INDEX;
 use walking::least::least_cost;
+use walking::walk::MARKS;
 use walking::walk::walk;
 ghost use mathlib.Core.Path.{_≡_};
 ghost use mathlib.Core.Bool.{true};
@@ -33,11 +33,11 @@ pub struct RoundDone {
 // moved the picks are still those of the walk, so that its marks are the reached states.
 fn round(
     file: &[u8],
-    index: &[u32; INDEX],
+    index: &[u32],
     values: &mut [u32],
     picks: &mut [u16],
     remembered: &mut [u32],
-    list: &mut [u16],
+    list: &mut [u16; MARKS],
     log: &mut [u32; LOG],
     states: usize,
     tolerance: u32,
@@ -114,11 +114,11 @@ fn is_finishing(kind: Kind) -> bool
 pub fn run(
     kind: Kind,
     file: &[u8],
-    index: &[u32; INDEX],
+    index: &[u32],
     values: &mut [u32],
     picks: &mut [u16],
     remembered: &mut [u32],
-    list: &mut [u16],
+    list: &mut [u16; MARKS],
     states: usize,
     tolerance: u32,
     give: u32,

@@ -1,7 +1,7 @@
 // Solving a file: questions 1 to 13, then the run, and what it leaves in the lent tables.
 // A no to one of them leaves the four tables as they were lent.
 use crate::lent::no_picks;
-use crate::lent::pad;
+use crate::lent::put_list;
 use crate::lent::remember;
 use crate::lent::solve_questions;
 use crate::run::Ended;
@@ -9,20 +9,23 @@ use crate::run::run;
 use checking::questions::questions;
 use model::FileAnswer;
 use model::Kind;
+use model::LIST_END;
 use model::SolveAnswer;
-use reading::index::INDEX;
+use reading::index::has_few_rows;
+use reading::index::large_index;
+use reading::index::small_index;
 use reading::layout::layout_of;
 use reading::settings::give_up_cost;
 use reading::settings::settings_of;
 use reading::states::estimates;
+use walking::walk::MARKS;
 ghost use mathlib.Core.Path.{_≡_};
 ghost use mathlib.Core.Bool.{false};
-ghost use lib.ListN.{length};
 ghost use Rattle.model.specs.Answers.{solveCarries};
 ghost use Rattle.model.specs.Promises.{Leaves, EndsSolved, PassesAudit, FinishesExact};
 ghost use Rattle.model.specs.Solution.{tables, solution};
 ghost use Rattle.model.specs.declared.Kind.the-variants.{Finishing};
-ghost use Rattle.reading.specs.Tests.{indexSize};
+ghost use Rattle.reading.specs.Room.{IndexRoom};
 ghost use Rattle.solving.specs.Solvable.{runCarries, Solvable, FileSolved};
 
 // The answer of a run that ended.
@@ -44,11 +47,11 @@ fn answer(end: Ended) -> SolveAnswer
     }
 }
 
-// Solves a file that questions 1 to 13 let through.
+// Solves a file that questions 1 to 13 let through. The walks list into an array of the run's own, and the walk list gets the last.
 fn solve_ready(
     kind: Kind,
     file: &[u8],
-    index: &[u32; INDEX],
+    index: &[u32],
     budget: u64,
     values: &mut [u32],
     picks: &mut [u16],
@@ -70,6 +73,7 @@ fn solve_ready(
     no_picks(picks, states);
     remember(file, index, values, remembered, l.rows);
     let give = give_up_cost(file);
+    let mut listed = [LIST_END; MARKS];
     let end = run(
         kind,
         file,
@@ -77,13 +81,13 @@ fn solve_ready(
         values,
         picks,
         remembered,
-        list,
+        &mut listed,
         states,
         set.tolerance,
         give,
         budget,
     );
-    pad(list, end.listed, states);
+    put_list(&listed, end.listed, states, list);
     answer(end)
 }
 
@@ -97,9 +101,9 @@ pub fn solve_file(
     picks: &mut [u16],
     remembered: &mut [u32],
     walk: &mut [u16],
-    index: &mut [u32; INDEX],
+    index: &mut [u32],
 ) -> SolveAnswer
-    requires { ⌜ length (now index) ≡ indexSize ⌝ }
+    requires { ⌜ IndexRoom (now file) (now index) ⌝ }
     ensures { λ r.
         ⌜ FileSolved
         kind (now (file .entry)) budget
@@ -158,7 +162,20 @@ pub fn solve(
         (now (file .entry))
         (tables (now (values .exit)) (now (picks .exit)) (now (remembered .exit)) (now (walk .exit))) (solveCarries r)) ⌝ }
 {
-    let mut index = [0u32; INDEX];
+    if has_few_rows(file) {
+        let mut index = small_index();
+        return solve_file(
+            kind,
+            file,
+            budget,
+            values,
+            picks,
+            remembered,
+            walk,
+            &mut index,
+        );
+    }
+    let mut index = large_index();
     solve_file(
         kind,
         file,

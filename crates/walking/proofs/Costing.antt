@@ -1,27 +1,29 @@
 -- The index's cost of a pick is the model's, and one state more lowers the least as the model's step does.
 -- Each marked state that is no goal has a pick whose cost the file says.
 use mathlib.Core.Path.{_≡_, _∙_, ap}
-use Prim.Native.Nat.{ℕ, _+_, _<_}
+use Prim.Native.Nat.{ℕ, _+_, _*_, _<_}
 use native.Mathlib.Decide.{ℕ-discrete}
 use native.Mathlib.Numerals.{add-one}
 use native.Mathlib.Omega.{arith}
 use mathlib.Core.List.{List}
 use mathlib.Core.Logic.{_⊎_, inl, inr, ⊎-elim}
 use lib.Dec.{eqb}
-use lib.ListN.{getD}
+use lib.ListN.{length, getD}
 use borrow.Author.Tests.{eq-eqb, ne-eqb}
-use Rattle.model.specs.Limits.{giveUp, maxRows}
+use Rattle.model.specs.Limits.{giveUp}
 use Rattle.model.specs.Problem.{giveUpCost}
 use Rattle.model.specs.Sections.{problemOf}
 use Rattle.model.specs.Value.{byState}
 use Rattle.model.specs.Walk.{pickCost, pickCostOn, leastTo}
+use Rattle.reading.specs.Tests.{rowsBase}
 use Rattle.walking.specs.Walkable.{Walkable}
 use Rattle.walking.specs.Costs.{PickCosts, Costed, lowerTo}
 
 module _ {f index : List ℕ} (w : Walkable f index) where
   -- what `pick_cost` asks
-  pub costed-row : {pick : ℕ} → (pick ≡ giveUp) ⊎ (pick < problemOf f .rows) → (pick ≡ giveUp) ⊎ (pick < maxRows)
-  costed-row h = ⊎-elim inl (λ l. inr (omega (arith, w .formed .rows-high))) h
+  pub costed-row : {pick : ℕ} → (pick ≡ giveUp) ⊎ (pick < problemOf f .rows)
+      → (pick ≡ giveUp) ⊎ (rowsBase + 2 * pick + 1 < length index)
+  costed-row h = ⊎-elim inl (λ l. inr (omega (arith, w .ready .indexed .size))) h
 
   pub cost-is : (picks : List ℕ) (s : ℕ) {limit r : ℕ} → (getD picks s 0 ≡ giveUp) ⊎ (getD picks s 0 < problemOf f .rows)
       → limit ≡ giveUpCost (problemOf f) → PickCosts index (getD picks s 0) limit r → r ≡ pickCost (problemOf f) (byState picks) s

@@ -8,7 +8,6 @@ use mathlib.Core.List.{List, _∷_, map}
 use lib.ListN.{getD, length, drop}
 use lib.Seq.{getD-drop}
 use Rattle.model.specs.Bytes.{u16At}
-use Rattle.model.specs.Limits.{maxStates, maxRows}
 use Rattle.model.specs.Problem.{Outcome, endRow, ownRow}
 use Rattle.model.specs.Sections.{problemOf, outcomeAt, outcomeCountOf, outcomesFrom}
 use Rattle.model.specs.Value.{byState}
@@ -16,6 +15,7 @@ use Rattle.model.specs.Walk.{here, there, next, successors}
 use Rattle.guarantee.specs.Walks.{own-row, next-state}
 use Rattle.guarantee.specs.Rows.{own-low, own-high}
 use Rattle.reading.specs.RowParts.{part-begins, part-ends, rows-end, own-at, outcomes-read}
+use Rattle.reading.specs.Tests.{rowsBase}
 use Rattle.walking.specs.Walkable.{Walkable}
 use Rattle.walking.specs.Trails.{Picked, leadsFrom, leads, Outcomes}
 
@@ -56,8 +56,10 @@ module _ {f index : List ℕ} (w : Walkable f index) (s : ℕ) (state : s < prob
   end-row = rows-end f index (w .ready) s state
 
   -- what looking a pick up in the index asks
-  pub index-there : (s < maxStates) × (getD index (s + 1) 0 ≤ maxRows)
-  index-there = (omega (arith, w .formed .states-high), omega (arith, end-row, w .ready .indexed .within .rows-within s state, w .formed .rows-high))
+  pub index-there : (s + 1 < length index) × (rowsBase + 2 * getD index (s + 1) 0 < length index)
+  index-there =
+      let size = w .ready .indexed .size in
+      (omega (arith, w .formed .states-high), omega (arith, end-row, w .ready .indexed .within .rows-within s state))
 
   module _ (picks : List ℕ) {from to : ℕ} (at : Picked index s (getD picks s 0) from to) where
     -- the part is whole outcomes of the file, and leads where the model's graph does

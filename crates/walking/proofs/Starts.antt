@@ -9,7 +9,7 @@ use lib.Seq.{length-take-le}
 use Rattle.model.specs.Limits.{maxStates}
 use Rattle.model.specs.Sections.{problemOf}
 use Rattle.model.specs.Value.{byState}
-use Rattle.model.specs.Walk.{Trail, walk}
+use Rattle.model.specs.Walk.{Trail, walk, walkWith}
 use Rattle.guarantee.specs.Graphs.{each, clear-entry, unmarked-start, sumTo-each}
 use Rattle.walking.specs.Walkable.{Walkable}
 use Rattle.walking.specs.Trails.{trail, unmarkedStates, visitedState, Under, Over}
@@ -18,7 +18,7 @@ use Rattle.walking.specs.Walked.{Walked}
 module _ {f index : List ℕ} (w : Walkable f index) where
   walk-is-visit : (picks list : List ℕ)
       → walk (problemOf f) (byState picks) ≡ visitedState f picks (problemOf f .start) maxStates (trail (replicate maxStates 0) list 0)
-  unfolding walk
+  unfolding walkWith
   walk-is-visit picks list = refl
 
   left-clear : unmarkedStates f (replicate maxStates 0) ≡ problemOf f .states
@@ -37,16 +37,16 @@ module _ {f index : List ℕ} (w : Walkable f index) where
           room = omega (arith, left-clear);
         }
 
-    pub walk-over : {s : ℕ} → s ≡ problemOf f .start → {marks′ list′ : List ℕ} {r : ℕ} → length list′ ≡ length list
-        → Over f picks (visitedState f picks s) (replicate maxStates 0) list 0 marks′ list′ r → Walked f picks list marks′ list′ r
-    walk-over {s} start {marks′} {list′} {r} long o =
+    pub walk-over : {s : ℕ} → s ≡ problemOf f .start → {marks′ list′ : List ℕ} {r : ℕ}
+        → Over f picks (visitedState f picks s) (replicate maxStates 0) list 0 marks′ list′ r → Walked f picks marks′ list′ r
+    walk-over {s} start {marks′} {list′} {r} o =
         let few : r ≤ problemOf f .states = omega (arith, o .room, left-clear) in
         record {
           marks = sym (ap (λ (t : Trail). t .marks) same);
           list = sym (ap (λ (t : Trail). t .list) same);
-          count = sym (ap (λ (t : Trail). length (t .list)) same ∙ length-take-le r list′ (omega (arith, list-long)));
+          count = sym (ap (λ (t : Trail). length (t .list)) same ∙ length-take-le r list′ (omega (arith, o .list-long)));
           few = few;
-          rest = o .rest;
+          list-long = o .list-long;
         }
       where
         same : walk (problemOf f) (byState picks) ≡ trail marks′ list′ r

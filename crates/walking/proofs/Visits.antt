@@ -7,15 +7,14 @@ use native.Mathlib.Omega.{arith}
 use mathlib.Core.Bool.{Bool, true, false}
 use mathlib.Core.List.{List, [], _∷_, _++_}
 use lib.Dec.{eqb}
-use lib.ListN.{getD, set, length, take, drop, length-set}
-use lib.Seq.{take-suc-set, drop-set-lt}
+use lib.ListN.{getD, set, length, take, length-set}
+use lib.Seq.{take-suc-set}
 use borrow.Author.Tests.{eq-eqb, ne-eqb}
 use Rattle.model.specs.Bytes.{u16At}
 use Rattle.model.specs.Sections.{problemOf}
 use Rattle.model.specs.Value.{byState}
 use Rattle.model.specs.Walk.{Trail, next, join, visitOn, visitState, visitOutcomes}
 use Rattle.guarantee.specs.Graphs.{VisitReady, each, unmarked-mark, set-entry, step-none, step-then, state-visited}
-use Rattle.guarantee.specs.Tables.{same-further}
 use Rattle.guarantee.specs.Walks.{next-state}
 use Rattle.walking.specs.Trails.{Outcomes, leads, leadsFrom, trail, unmarkedStates, Stretch}
 use Rattle.walking.specs.Trails.{visitedState, visitedOutcomes, Under, Over}
@@ -80,21 +79,20 @@ module _ {f index picks marks list : List ℕ} {n : ℕ} (u : Under f index pick
         stretch = state-stretch _ (state-same true g _ (omega arith));
         grows = o .grows;
         room = omega (arith, o .room, mark-left);
-        rest = o .rest;
+        list-long = o .list-long;
       }
 
-      pub over-listed : problemOf f .goal s ≡ false → length list1 ≡ length list
-          → Over f picks (visitedState f picks s) marks list n marks1 (set list1 k s) (k + 1)
-      over-listed g long = record {
+      pub over-listed : problemOf f .goal s ≡ false → Over f picks (visitedState f picks s) marks list n marks1 (set list1 k s) (k + 1)
+      over-listed g = record {
         same = listed;
         stretch = state-stretch _ (listed _ (omega arith));
         grows = omega (arith, o .grows);
         room = omega (arith, o .room, mark-left);
-        rest = drop-set-lt (k + 1) list1 k s (omega arith) ∙ same-further list list1 k (k + 1) (omega arith) (o .rest);
+        list-long = omega (arith, length-set list1 k s, o .list-long);
       }
         where
           pushed : take k list1 ++ (s ∷ []) ≡ take (k + 1) (set list1 k s)
-          pushed = rw add-one (sym (take-suc-set list1 k s (omega (arith, list-room, u .list-long))))
+          pushed = rw add-one (sym (take-suc-set list1 k s (omega (arith, list-room, o .list-long))))
 
           listed : (d : ℕ) → unmarkedStates f marks ≤ d
               → visitedState f picks s d (trail marks list n) ≡ trail marks1 (set list1 k s) (k + 1)
@@ -115,8 +113,6 @@ pub record Looping
   pub stretch : Stretch f picks (trail marks₀ list₀ n) (trail marks list k)
   pub grows : n ≤ k
   pub room : k + unmarkedStates f marks ≤ n + unmarkedStates f marks₀
-  pub rest : drop k list ≡ drop k list₀
-  pub long : length list ≡ length list₀
 
 pub loop-start : {f index picks marks list : List ℕ} {from to n : ℕ} → Under f index picks marks list n → Outcomes f from to
     → Looping f index picks from to marks list n marks list from n
@@ -128,8 +124,6 @@ loop-start {f} {index} {picks} {marks} {list} {from} {to} {n} u o =
       stretch = step-none _ _ _ _ (trail marks list n) (u .binary);
       grows = omega arith;
       room = omega arith;
-      rest = refl;
-      long = refl;
     }
 
 module _ {f index picks : List ℕ} {from to : ℕ} {marks₀ list₀ : List ℕ} {n : ℕ} {marks list : List ℕ} {i k : ℕ}
@@ -144,7 +138,7 @@ module _ {f index picks : List ℕ} {from to : ℕ} {marks₀ list₀ : List ℕ
         stretch = l .stretch;
         grows = l .grows;
         room = l .room;
-        rest = l .rest;
+        list-long = l .under .list-long;
       }
 
   module _ (more : i < to) (t : ℕ) (here : t ≡ u16At f i) where
@@ -168,22 +162,20 @@ module _ {f index picks : List ℕ} {from to : ℕ} {marks₀ list₀ : List ℕ
           stretch = l .stretch;
           grows = l .grows;
           room = l .room;
-          rest = l .rest;
-          long = l .long;
         }
 
     -- it is not marked, and visited
     pub loop-visit : {marks′ list′ : List ℕ} {k′ : ℕ} → getD marks t 0 ≡ 0
-        → Over f picks (visitedState f picks t) marks list k marks′ list′ k′ → length list′ ≡ length list
+        → Over f picks (visitedState f picks t) marks list k marks′ list′ k′
         → Looping f index picks from to marks₀ list₀ n marks′ list′ (i + 4) k′
-    loop-visit {marks′} {list′} {k′} clear o long =
+    loop-visit {marks′} {list′} {k′} clear o =
         let rest = visitedOutcomes f picks (i + 4) to in
         record {
           under =
               record {
                 walkable = l .under .walkable;
                 picks-long = l .under .picks-long;
-                list-long = omega (arith, l .under .list-long);
+                list-long = o .list-long;
                 marks-long = omega (arith, l .under .marks-long, o .stretch .long);
                 binary = o .stretch .binary;
                 room = omega (arith, l .under .room, o .room);
@@ -196,6 +188,4 @@ module _ {f index picks : List ℕ} {from to : ℕ} {marks₀ list₀ : List ℕ
           stretch = step-then _ _ _ (λ s. s < problemOf f .states) _ _ _ (l .stretch) (o .stretch);
           grows = omega (arith, l .grows, o .grows);
           room = omega (arith, l .room, o .room);
-          rest = o .rest ∙ same-further list₀ list k k′ (o .grows) (l .rest);
-          long = long ∙ l .long;
         }

@@ -4,7 +4,7 @@ use mathlib.Core.Path.{_≡_}
 use Prim.Native.Nat.{ℕ, zero, suc, _+_, _-_, _*_, _/_, _≤_, _<_}
 use mathlib.Core.Bool.{true, false}
 use mathlib.Core.List.{List, [], _∷_}
-use lib.ListN.{getD, length, take, drop}
+use lib.ListN.{getD, length, take}
 use Rattle.model.specs.Bytes.{u16At}
 use Rattle.model.specs.Sections.{problemOf}
 use Rattle.model.specs.Value.{byState}
@@ -63,11 +63,11 @@ pub record Under (f index picks marks list : List ℕ) (n : ℕ) : Type 0 where
   pub binary : (x : ℕ) → getD marks x 0 ≤ 1
   pub room : n + unmarkedStates f marks ≤ problemOf f .states
 
--- what a visit leaves: the model's trail at every depth of at least the unmarked states, and the list beyond it as it was
+-- what a visit leaves: the model's trail at every depth of at least the unmarked states, and a list that is still long enough
 pub record Over
     (f picks : List ℕ) (visited : ℕ → Trail → Trail) (marks list : List ℕ) (n : ℕ) (marks′ list′ : List ℕ) (r : ℕ) : Type 0 where
   pub same : (d : ℕ) → unmarkedStates f marks ≤ d → visited d (trail marks list n) ≡ trail marks′ list′ r
   pub stretch : Stretch f picks (trail marks list n) (trail marks′ list′ r)
   pub grows : n ≤ r
   pub room : r + unmarkedStates f marks′ ≤ n + unmarkedStates f marks
-  pub rest : drop r list′ ≡ drop r list
+  pub list-long : problemOf f .states ≤ length list′

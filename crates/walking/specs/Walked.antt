@@ -5,23 +5,23 @@ use Prim.Native.Nat.{ℕ, _≤_}
 use mathlib.Core.Bool.{true, false}
 use mathlib.Core.List.{List}
 use mathlib.Core.Logic.{_⊎_, inl, inr, ⊎-elim}
-use lib.ListN.{getD, length, take, drop}
+use lib.ListN.{getD, length, take}
 use Rattle.model.specs.Limits.{giveUp}
 use Rattle.model.specs.Problem.{ownRow}
 use Rattle.model.specs.Sections.{problemOf}
 use Rattle.model.specs.Value.{byState}
-use Rattle.model.specs.Walk.{Reached, at-start, walk, leastTo, leastCost}
+use Rattle.model.specs.Walk.{Reached, at-start, walk, leastTo, leastCost, leastCostWith}
 use Rattle.guarantee.specs.Walks.{own-row, reached-marked, marked-reached}
 use Rattle.walking.specs.Walkable.{Walkable}
 use Rattle.walking.specs.Costs.{Costed}
 
--- the marks and the first r entries of the list are the model's, and the entries beyond are as they were
-pub record Walked (f picks before marks′ list′ : List ℕ) (r : ℕ) : Type 0 where
+-- the marks and the first r entries of the list are the model's, and the list has an entry for each state
+pub record Walked (f picks marks′ list′ : List ℕ) (r : ℕ) : Type 0 where
   pub marks : marks′ ≡ walk (problemOf f) (byState picks) .marks
   pub list : take r list′ ≡ walk (problemOf f) (byState picks) .list
   pub count : r ≡ length (walk (problemOf f) (byState picks) .list)
   pub few : r ≤ problemOf f .states
-  pub rest : drop r list′ ≡ drop r before
+  pub list-long : problemOf f .states ≤ length list′
 
 module _ {f index : List ℕ} (w : Walkable f index) (picks : List ℕ) {marks : List ℕ}
     (walked : marks ≡ walk (problemOf f) (byState picks) .marks) where
@@ -46,5 +46,5 @@ module _ {f index : List ℕ} (w : Walkable f index) (picks : List ℕ) {marks :
 
   pub walked-least : (n c : ℕ) → n ≡ problemOf f .states → c ≡ leastTo (problemOf f) (byState picks) marks n
       → c ≡ leastCost (problemOf f) (byState picks)
-  unfolding leastCost
+  unfolding leastCostWith
   walked-least n c e h = h ∙ rw (walked, e) refl

@@ -1,26 +1,26 @@
 // "C is the least of 1000 × c or 1000 × D over the picks at reached states that aren't goals."
 use crate::walk::MARKS;
 use model::GIVE_UP;
-use reading::index::INDEX;
 use reading::index::ROWS;
 use reading::settings::give_up_cost;
 use reading::settings::start_of;
 use reading::states::is_goal;
 ghost use mathlib.Core.Path.{_≡_};
-ghost use Prim.Native.Nat.{_<_};
+ghost use Prim.Native.Nat.{_+_, _*_, _<_};
 ghost use mathlib.Core.Logic.{_⊎_};
-ghost use lib.ListN.{getD};
-ghost use Rattle.model.specs.Limits.{giveUp, maxRows};
+ghost use lib.ListN.{length, getD};
+ghost use Rattle.model.specs.Limits.{giveUp};
 ghost use Rattle.model.specs.Problem.{giveUpCost};
 ghost use Rattle.model.specs.Sections.{problemOf};
 ghost use Rattle.model.specs.Value.{byState};
 ghost use Rattle.model.specs.Walk.{leastTo};
+ghost use Rattle.reading.specs.Tests.{rowsBase};
 ghost use Rattle.walking.specs.Walkable.{Walkable};
 ghost use Rattle.walking.specs.Costs.{PickCosts, Costed, lowerTo};
 
 // What a pick costs: the limit where it gives up, else its row's cost in ticks.
-fn pick_cost(index: &[u32; INDEX], pick: u16, limit: u32) -> u32
-    requires { ⌜ (pick ≡ giveUp) ⊎ (pick < maxRows) ⌝ }
+fn pick_cost(index: &[u32], pick: u16, limit: u32) -> u32
+    requires { ⌜ (pick ≡ giveUp) ⊎ (rowsBase + 2 * pick + 1 < length (now index)) ⌝ }
     ensures { λ r. ⌜ PickCosts (now (index .entry)) pick limit r ⌝ }
 {
     if pick == GIVE_UP {
@@ -32,7 +32,7 @@ fn pick_cost(index: &[u32; INDEX], pick: u16, limit: u32) -> u32
 // The lower of `least` and what the pick at s costs, where s is marked and no goal; else `least`.
 fn lower(
     file: &[u8],
-    index: &[u32; INDEX],
+    index: &[u32],
     picks: &[u16],
     marks: &[u8; MARKS],
     limit: u32,
@@ -54,13 +54,7 @@ fn lower(
 }
 
 // The least cost of the picks at the start and at the marked states, of the first n, that are no goals.
-pub fn least_cost(
-    file: &[u8],
-    index: &[u32; INDEX],
-    picks: &[u16],
-    marks: &[u8; MARKS],
-    n: usize,
-) -> u32
+pub fn least_cost(file: &[u8], index: &[u32], picks: &[u16], marks: &[u8; MARKS], n: usize) -> u32
     requires { ⌜ Walkable (now file) (now index) × Costed (now file) (now picks) (now marks)
         × (n ≡ problemOf (now file) .states) × (getD (now marks) (problemOf (now file) .start) 0 ≡ 1) ⌝ }
     ensures { λ r. ⌜ r ≡ leastTo (problemOf (now (file .entry))) (byState (now (picks .entry))) (now (marks .entry)) n ⌝ }

@@ -1,6 +1,5 @@
 // "Walk from the start with the picks as they are": visit_state and visit_outcomes call each other.
 use model::MAX_STATES;
-use reading::index::INDEX;
 use reading::index::ROWS;
 use reading::index::is_own;
 use reading::numbers::u16_at;
@@ -8,17 +7,16 @@ use reading::settings::start_of;
 use reading::states::is_goal;
 ghost use mathlib.Core.Path.{_≡_};
 ghost use mathlib.Core.Bool.{false, not};
-ghost use Prim.Native.Nat.{_+_, _≤_, _<_};
+ghost use Prim.Native.Nat.{_+_, _*_, _≤_, _<_};
 ghost use lib.ListN.{length, getD};
-ghost use Rattle.model.specs.Limits.{maxRows, maxStates};
 ghost use Rattle.model.specs.Questions.{passes, layoutQuestions};
 ghost use Rattle.model.specs.Sections.{problemOf};
-ghost use Rattle.reading.specs.Tests.{indexSize};
+ghost use Rattle.reading.specs.Tests.{rowsBase};
 ghost use Rattle.walking.specs.Trails.{Picked, Outcomes, Under, Over, visitedState, visitedOutcomes};
 ghost use Rattle.walking.specs.Walkable.{Walkable};
 ghost use Rattle.walking.specs.Walked.{Walked};
 
-// "Each walk begins with 1,024 marks": one for each state that a file can have.
+// "Each walk then begins with 2,048 marks": one for each state that a file can have.
 pub const MARKS: usize = MAX_STATES;
 
 // A part of the file, from a byte up to another.
@@ -34,16 +32,16 @@ fn wide(x: u32) -> usize
 }
 
 // Entry i of the index.
-fn index_at(index: &[u32; INDEX], i: usize) -> usize
-    requires { ⌜ i < indexSize ⌝ }
+fn index_at(index: &[u32], i: usize) -> usize
+    requires { ⌜ i < length (now index) ⌝ }
     ensures { λ r. ⌜ r ≡ getD (now (index .entry)) i 0 ⌝ }
 {
     wide(index[i])
 }
 
 // Where the outcomes of row `pick` stand; an empty part where it is not one of state s's own.
-fn picked(index: &[u32; INDEX], s: usize, pick: u32) -> Part
-    requires { ⌜ (s < maxStates) × (getD (now index) (s + 1) 0 ≤ maxRows) ⌝ }
+fn picked(index: &[u32], s: usize, pick: u32) -> Part
+    requires { ⌜ (s + 1 < length (now index)) × (rowsBase + 2 * getD (now index) (s + 1) 0 < length (now index)) ⌝ }
     ensures { λ r. ⌜ Picked (now (index .entry)) s pick (r .from) (r .to) ⌝ }
 {
     if !is_own(index, s, pick) {
@@ -73,10 +71,10 @@ fn no_goal(file: &[u8], from: usize, to: usize, s: usize) -> bool
 // n states before, and as many as the answer says after.
 fn visit_state(
     file: &[u8],
-    index: &[u32; INDEX],
+    index: &[u32],
     picks: &[u16],
     marks: &mut [u8; MARKS],
-    list: &mut [u16],
+    list: &mut [u16; MARKS],
     s: usize,
     n: usize,
 ) -> usize
@@ -100,10 +98,10 @@ fn visit_state(
 // Visits the outcomes that stand from byte `from` up to byte `to`, in order, where their states are not marked.
 fn visit_outcomes(
     file: &[u8],
-    index: &[u32; INDEX],
+    index: &[u32],
     picks: &[u16],
     marks: &mut [u8; MARKS],
-    list: &mut [u16],
+    list: &mut [u16; MARKS],
     from: usize,
     to: usize,
     n: usize,
@@ -134,11 +132,11 @@ pub struct WalkDone {
 
 // Walks from the start, with marks made fresh: marks the reached states, lists those that are no goals, and answers the
 // marks and how many are listed.
-pub fn walk(file: &[u8], index: &[u32; INDEX], picks: &[u16], list: &mut [u16]) -> WalkDone
+pub fn walk(file: &[u8], index: &[u32], picks: &[u16], list: &mut [u16; MARKS]) -> WalkDone
     requires { ⌜ Walkable (now file) (now index)
         × (problemOf (now file) .states ≤ length (now picks)) × (problemOf (now file) .states ≤ length (now list)) ⌝ }
     ensures { λ r.
-        ⌜ Walked (now (file .entry)) (now (picks .entry)) (now (list .entry)) (r .marks) (now (list .exit)) (r .listed) ⌝ }
+        ⌜ Walked (now (file .entry)) (now (picks .entry)) (r .marks) (now (list .exit)) (r .listed) ⌝ }
 {
     let mut done = WalkDone {
         marks: [0u8; MARKS],

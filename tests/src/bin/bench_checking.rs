@@ -8,7 +8,7 @@
 
 use comparisons::harness::argument;
 use comparisons::library::{check, ANSWER, PASSED};
-use comparisons::limits::{KIND_RATE, MAX_RATE, MAX_STATES, MIN_RATE};
+use comparisons::limits::{KIND_RATE, MAX_RATE, MAX_STATES, MIN_RATE, OLD};
 use comparisons::loads::LOADS;
 use comparisons::problem::Problem;
 use comparisons::random::Random;
@@ -17,7 +17,7 @@ use comparisons::totals::Fourth;
 use std::process::ExitCode;
 
 /// The sizes timed.
-const SIZES: [usize; 5] = [2, 16, 64, 256, MAX_STATES];
+const SIZES: [usize; 6] = [2, 16, 64, 256, OLD.states, MAX_STATES];
 /// How the files of every size are written: the name, whether by rate, and the fourth setting.
 const KINDS: [(&str, bool, Fourth); 2] = [("seconds", false, None), ("rates", true, None)];
 /// How those of the largest size are written too: in the other totals.

@@ -8,7 +8,7 @@
 //!
 //! `bench_exchanging [seed] [files per load]`
 
-use comparisons::encode::Draft;
+use comparisons::encode::{share, Draft};
 use comparisons::harness::argument;
 use comparisons::library::{check, set_form, ANSWER, PASSED, WRITTEN};
 use comparisons::limits::*;
@@ -32,37 +32,45 @@ struct Load {
 
 /// The loads timed.
 const LOADS: [Load; 7] = [
-    Load { name: "two outcomes, four rows", sizes: &[16, 64, 256, 1_024], draft: four_rows },
+    Load {
+        name: "two outcomes, four rows",
+        sizes: &[16, 64, 256, OLD.states, MAX_STATES],
+        draft: four_rows,
+    },
     Load { name: "two outcomes, most rows", sizes: &[16, 64, 256], draft: most_rows },
     Load {
         name: "255 falling",
-        sizes: &[256, 1_024],
+        sizes: &[256, MAX_STATES],
         draft: |r, n| wide(r, n, Order::Falling, None),
     },
-    Load { name: "255 mixed", sizes: &[256, 1_024], draft: |r, n| wide(r, n, Order::Mixed, None) },
+    Load {
+        name: "255 mixed",
+        sizes: &[256, MAX_STATES],
+        draft: |r, n| wide(r, n, Order::Mixed, None),
+    },
     Load {
         name: "255 rising",
-        sizes: &[256, 1_024],
+        sizes: &[256, MAX_STATES],
         draft: |r, n| wide(r, n, Order::Rising, None),
     },
     Load {
         name: "255 with repeats",
-        sizes: &[16, 1_024],
+        sizes: &[16, MAX_STATES],
         draft: |r, n| wide(r, n, Order::Repeats, None),
     },
     Load {
         name: "255 to one state",
-        sizes: &[2, 1_024],
+        sizes: &[2, MAX_STATES],
         draft: |r, n| wide(r, n, Order::One, None),
     },
 ];
 
-/// Four rows at each state: at 1,024 states, 4,096 rows and 8,192 outcomes.
+/// Four rows at each state: at 2,048 states, 8,192 rows and 16,384 outcomes.
 fn four_rows(random: &mut Random, states: usize) -> Draft {
     two_outcomes(random, states, ROWS_EACH * states)
 }
 
-/// As many rows as there may be: 4,096, or 255 at each state.
+/// As many rows as there may be: 8,192, or 255 at each state.
 fn most_rows(random: &mut Random, states: usize) -> Draft {
     two_outcomes(random, states, MAX_ROWS.min(MAX_IN_BYTE * states))
 }
@@ -72,7 +80,7 @@ fn two_outcomes(random: &mut Random, states: usize, rows: usize) -> Draft {
     let mut draft = Draft::new(0, 1, 5_000);
     for state in 0..states {
         draft.add_state();
-        for _ in rows * state / states..rows * (state + 1) / states {
+        for _ in share(rows, states, state) {
             let (kind, cost) = any_cost(random);
             let weights = any_weights(random, 2, USUAL_TOTAL);
             let outcomes: Vec<(u16, u16)> =

@@ -12,6 +12,7 @@ use comparisons::audit::{audit_file, reached_states, Verdict};
 use comparisons::follower::{self, Followed, Record};
 use comparisons::harness::argument;
 use comparisons::library::{self, asked_of_follower, ACCEPTED, ANSWER, DONE};
+use comparisons::limits::{MAX_STATES, OLD};
 use comparisons::loads::{Load, LOADS};
 use comparisons::problem::Problem;
 use comparisons::proposal::Proposal;
@@ -20,7 +21,7 @@ use comparisons::timing::{median, Pairs};
 use std::process::ExitCode;
 
 /// The sizes timed.
-const SIZES: [usize; 4] = [16, 64, 256, 1_024];
+const SIZES: [usize; 5] = [16, 64, 256, OLD.states, MAX_STATES];
 /// The rounds of the run that makes the tables.
 const BUDGET: u64 = 10_000;
 /// The outcome reported.

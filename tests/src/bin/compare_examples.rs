@@ -12,8 +12,8 @@ use comparisons::extremes::{at_limits, deep_chain};
 use comparisons::finishing::coarse;
 use comparisons::follower::{open, report, Followed, Record};
 use comparisons::harness::Tally;
-use comparisons::limits::{GIVE_UP, MAX_STATES, PLAN_ROUNDS};
-use comparisons::listing::{audit_line, plan_lines, planned};
+use comparisons::limits::{GIVE_UP, LONGEST_FILE, OLD, PLAN_ROUNDS};
+use comparisons::listing::{audit_line, plan_lines, planned, planned_at_any_length};
 use comparisons::problem::{Problem, FILE_QUESTIONS};
 use comparisons::programs::{run_to_end, said, start, Folder, Said};
 use comparisons::random::Random;
@@ -64,8 +64,8 @@ const SET_FORM: Example = Example {
 };
 /// The C examples, which read a file by `problem_file.h`.
 const C_EXAMPLES: [&Example; 3] = [&EXAMPLES[0], &FOLLOW, &SET_FORM];
-/// The room that the C examples have for a file, in bytes.
-const FILE_ROOM: usize = 65_536;
+/// What the C examples say of a file that is longer than their room.
+const TOO_LONG: &str = "it is longer than 110,616 bytes, as no problem file is";
 /// A program in C++ that makes a call, and ends with what it returns: an empty file is refused.
 const C_PLUS_PLUS: &str =
     "#include \"cuulipso.h\"\nint main() { uint64_t answer[CUULIPSO_ANSWER]; \
@@ -170,7 +170,8 @@ fn followed_text(followed: Followed, record: &Record) -> String {
 
 /// All that it prints of a file and reports.
 fn follow_text(file: &[u8], outcomes: &[u64]) -> String {
-    let OwnedTables { values, picks, .. } = planned(file).tables.unwrap_or_default();
+    let tables = planned_at_any_length(Kind::Plain, file).tables;
+    let OwnedTables { values, picks, .. } = tables.unwrap_or_default();
     let mut record = Record { state: 0, moves: 0, seconds: 0, mark: 0 };
     let opened = open(file, &values, &picks, &mut record);
     let mut text = followed_text(opened, &record);
@@ -205,6 +206,8 @@ fn compare_follows(tally: &mut Tally, folder: &Folder) {
     for fourth in FOURTHS {
         let p = with_total(&file_p(), fourth).bytes();
         compare_follow(tally, folder, "P in another total", &p, &[2, 0, 0, 0]);
+        let limits = at_limits(&mut Random::new(1), true, 5_000, fourth).bytes();
+        compare_follow(tally, folder, "the limits", &limits, &[0, 1, 0]);
     }
     compare_follow(tally, folder, "an empty file", &[], &[0]);
 }
@@ -288,9 +291,9 @@ fn compare_all_unread(tally: &mut Tally, folder: &Folder) {
     std::fs::create_dir(folder.path("folder")).expect("a folder can be made");
     compare_unread(tally, folder, "folder", "Is a directory");
     let mut long = stick().bytes();
-    long.resize(FILE_ROOM + 1, 0);
+    long.resize(LONGEST_FILE + 1, 0);
     folder.put("long", Some(&long));
-    compare_unread(tally, folder, "long", "it is longer than 65,536 bytes, as no problem file is");
+    compare_unread(tally, folder, "long", TOO_LONG);
 }
 
 /// The header in a program in C++.
@@ -319,7 +322,7 @@ fn compare_forms(tally: &mut Tally, folder: &Folder) {
     }
     compare_form(tally, folder, "an empty file", &[]);
     let mut long = stick().bytes();
-    long.resize(FILE_ROOM, 0);
+    long.resize(LONGEST_FILE, 0);
     compare_form(tally, folder, "a file as long as the room", &long);
 }
 
@@ -403,7 +406,7 @@ fn main() -> ExitCode {
     compare(&mut tally, &folder, "an empty file", &[]);
     for fourth in FOURTHS {
         let limits = at_limits(&mut random, true, 5_000, fourth).bytes();
-        let chain = deep_chain(&mut random, MAX_STATES, 8, true, fourth).bytes();
+        let chain = deep_chain(&mut random, OLD.states, 8, true, fourth).bytes();
         compare(&mut tally, &folder, "P in another total", &with_total(&file_p(), fourth).bytes());
         compare(
             &mut tally,

@@ -11,7 +11,7 @@ use comparisons::audit::audit_file;
 use comparisons::damage::{damaged, one_wrong_each};
 use comparisons::encode::Draft;
 use comparisons::examples::{file_p, one_state, stick, with_total};
-use comparisons::extremes::{at_limits, deep_chain, deepest};
+use comparisons::extremes::{about_limits, at_limits, deep_chain, deepest};
 use comparisons::harness::{argument, noise, Tally};
 use comparisons::library::{
     self, asked_of_audit, check, ACCEPTED, ANSWER, PASSED, REFUSED, WRITTEN,
@@ -51,7 +51,7 @@ const LEAST: [(&str, u64); 27] = [
     ("files", 30_000),
     ("files accepted", 25_000),
     ("files refused", 5_500),
-    ("files at one or two limits", 50),
+    ("files at one or two limits", 40),
     ("files at all three limits", 16),
     ("smallest files", 20),
     ("written", 35_000),
@@ -416,14 +416,15 @@ fn draft_of(random: &mut Random, number: u64) -> Draft {
         0..=4 => with_total(&file_p(), fourth),
         5..=14 => with_total(&one_state(), fourth),
         15..=19 => with_total(&stick(), fourth),
-        20..=34 => at_limits(random, with_goal, 5_000, fourth),
+        20..=31 => at_limits(random, with_goal, 5_000, fourth),
+        32..=34 => about_limits(random, with_goal, 5_000, fourth),
         35..=39 => deepest(fourth),
         40..=44 => deep_chain(random, MAX_STATES, 8, with_goal, fourth),
-        45..=94 => {
+        45..=69 => {
             let states = random.pick(&[MAX_IN_BYTE, MAX_IN_BYTE + 1, 300, MAX_STATES]);
             wide(random, states, order, fourth)
         }
-        95..=119 => {
+        70..=94 => {
             let states = random.pick(&[2, 3, 40]);
             wide(random, states, order, fourth)
         }

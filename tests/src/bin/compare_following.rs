@@ -9,7 +9,7 @@ use comparisons::audit::{pick_of, reached_states, Pick};
 use comparisons::damage::damaged;
 use comparisons::encode::Draft;
 use comparisons::examples::{file_p, one_state, p_with_penalty, stick, with_total};
-use comparisons::extremes::{at_limits, deep_chain};
+use comparisons::extremes::{about_limits, at_limits, deep_chain};
 use comparisons::follower::{self, outcome_number, pick_at, reasons, Followed, Reason, Record};
 use comparisons::harness::{answer_length, argument, noise, Tally};
 use comparisons::library::{
@@ -367,7 +367,8 @@ fn draft_of(random: &mut Random, number: u64) -> Draft {
         10..=19 => with_total(&p_with_penalty(100), fourth),
         20..=29 => with_total(&one_state(), fourth),
         30..=39 => with_total(&stick(), fourth),
-        40..=44 => at_limits(random, with_goal, 5_000, fourth),
+        40..=42 => at_limits(random, with_goal, 5_000, fourth),
+        43..=44 => about_limits(random, with_goal, 5_000, fourth),
         45..=49 => deep_chain(random, MAX_STATES, 8, with_goal, fourth),
         50..=69 => deep_chain(random, 32, MAX_IN_BYTE, with_goal, fourth),
         70..=109 => {

@@ -5,10 +5,11 @@
 //!
 //! `compare_names [plan] [audit] [sheet]`
 
+use comparisons::encode::Draft;
 use comparisons::examples::file_p;
-use comparisons::extremes::at_limits;
+use comparisons::extremes::of_length;
 use comparisons::harness::Tally;
-use comparisons::limits::MAX_STATES;
+use comparisons::limits::{MAX_STATES, PLAN_HOLDS};
 use comparisons::listing::{plan_lines, planned_by};
 use comparisons::programs::{
     kind_words, run, said, start, taken, Folder, Program, Said, PLAN_USAGE,
@@ -23,7 +24,7 @@ use std::os::unix::fs::{symlink, FileTypeExt};
 use std::process::{Command, ExitCode};
 
 /// How often each must be met.
-const LEAST: [(&str, u64); 7] = [
+const LEAST: [(&str, u64); 8] = [
     ("names that cannot be written", 32),
     ("names of other files", 45),
     ("part files", 24),
@@ -31,6 +32,7 @@ const LEAST: [(&str, u64); 7] = [
     ("names that cannot be read", 21),
     ("tables written with --finish", 8),
     ("uses of --finish that are refused", 35),
+    ("refused files with names", 32),
 ];
 /// The system's longest path, in bytes.
 const LONGEST_PATH: usize = 4_096;
@@ -38,8 +40,8 @@ const LONGEST_PATH: usize = 4_096;
 const OLD_VALUES: &[u8] = b"values as of";
 const OLD_PICKS: &[u8] = b"old...";
 /// Lengths of files that are no tables of P: empty, about those of its tables, and longer than any table.
-const NO_VALUES: [usize; 6] = [0, 6, 11, 13, 4_096, 4_097];
-const NO_PICKS: [usize; 6] = [0, 5, 7, 12, 2_048, 100_000];
+const NO_VALUES: [usize; 6] = [0, 6, 11, 13, 4 * MAX_STATES, 4 * MAX_STATES + 1];
+const NO_PICKS: [usize; 6] = [0, 5, 7, 12, 2 * MAX_STATES, 100_000];
 /// Words of which `--finish` is not the first, is not all of a word, or is not followed by nothing or two
 /// names.
 const REFUSED: [&[&str]; 31] = [
@@ -77,6 +79,11 @@ const REFUSED: [&[&str]; 31] = [
 ];
 /// Runs a program that may write no file longer than so many blocks, as on a disk that is full.
 const FULL_DISK: &str = "trap '' XFSZ; ulimit -f \"$1\"; shift; exec \"$@\"";
+
+/// The longest file that `plan` holds, with as many states as there may be.
+fn longest_held() -> Draft {
+    of_length(&mut Random::new(0), PLAN_HOLDS, true, 5_000, None)
+}
 
 /// The programs, the folder that they run in, and the count of differences.
 struct Room {
@@ -251,7 +258,7 @@ impl Room {
 
     /// Files about as long as the longest tables, and longer than any, under the names of these.
     fn compare_longest(&mut self) {
-        let file = at_limits(&mut Random::new(0), true, 5_000, None).bytes();
+        let file = longest_held().bytes();
         self.folder.put("limits", Some(&file));
         for (name, longest) in [("values", 4 * MAX_STATES), ("picks", 2 * MAX_STATES)] {
             for length in [longest - 1, longest + 1, 100_000] {
@@ -315,13 +322,22 @@ impl Room {
         }
     }
 
-    /// A file that is refused is refused whatever the names, and nothing is written.
+    /// A file that is refused is refused whatever the names, and nothing is written; one that `plan` does not
+    /// hold too, though it would pass.
     fn compare_refused(&mut self) {
-        for names in [["file", "empty"], ["new", "folder"], ["old-values", "old-picks"], ["", ""]] {
-            self.try_case(format!("a refused file with {names:?}"));
-            let said = self.run_plan(&names, &file_p().bytes()[1..]);
-            self.tally.hold("the refusal", &said, &Said::only(plan_lines(&file_p().bytes()[1..])));
-            self.hold_folder();
+        let wrong = file_p().bytes()[1..].to_vec();
+        let long = of_length(&mut Random::new(0), PLAN_HOLDS + 4, true, 5_000, None).bytes();
+        let longer = [&longest_held().bytes()[..], &[0]].concat();
+        for file in [wrong, long, longer, vec![0; PLAN_HOLDS + 1]] {
+            for names in
+                [["file", "empty"], ["new", "folder"], ["old-values", "old-picks"], ["", ""]]
+            {
+                self.try_case(format!("{} bytes that are refused with {names:?}", file.len()));
+                self.tally.count("refused files with names");
+                let said = self.run_plan(&names, &file);
+                self.tally.hold("the refusal", &said, &Said::only(plan_lines(&file)));
+                self.hold_folder();
+            }
         }
     }
 
@@ -369,7 +385,7 @@ impl Room {
 
     /// A disk that takes no table, or only the front of one.
     fn compare_full_disk(&mut self) {
-        let file = at_limits(&mut Random::new(0), true, 5_000, None).bytes();
+        let file = longest_held().bytes();
         for blocks in ["0", "1"] {
             self.try_case(format!("a disk with {blocks} blocks left"));
             self.tally.count("full disks");

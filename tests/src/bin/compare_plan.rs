@@ -5,11 +5,13 @@
 
 use comparisons::damage::{damaged, one_wrong_each};
 use comparisons::examples::{file_p, one_state, stick, with_total};
-use comparisons::extremes::{at_limits, deep_chain, endless, endless_fan, long_lines};
+use comparisons::extremes::{
+    deep_chain, deepest_held, endless, endless_fan, lengths_above, long_lines, of_length, sized,
+};
 use comparisons::finishing::{coarse, wavering, with_tolerance};
 use comparisons::harness::{argument, close_all, Tally};
-use comparisons::limits::{MAX_PENALTY, MAX_STATES, MAX_TOLERANCE};
-use comparisons::listing::{ends_within, plan_lines, planned_by, remainders_from};
+use comparisons::limits::*;
+use comparisons::listing::{ends_within, plan_lines, planned_by, remainders_from, TOO_LONG};
 use comparisons::made::made;
 use comparisons::problem::FILE_QUESTIONS;
 use comparisons::programs::{kind_words, run, Program};
@@ -22,7 +24,7 @@ use std::process::{Command, ExitCode};
 const MOST_ROUNDS: u64 = 20_000;
 /// A standard input longer than any problem file.
 const VERY_LONG: usize = 200_000;
-/// How often each of the questions 1 to 11 must be met.
+/// How often each of the questions 1 to 11 must be met, and 25.
 const LEAST_MET: u64 = 5;
 /// How many there must be of each answer, and of remainders above 0 in its state lines, in each total
 /// its share. Only a spent run shows that they are taken under the final values: a solved run's last
@@ -97,14 +99,11 @@ fn compare(tally: &mut Tally, plan: &Plan, case: &str, input: &[u8]) {
 }
 
 /// The files that stand for themselves, in a total: the examples, and what is wrong with one for each
-/// question; the limits, the longest lines, and runs that are spent.
+/// question; the longest lines, deep walks, and runs that are spent.
 fn compare_set_files(tally: &mut Tally, plan: &Plan, random: &mut Random, fourth: Fourth) {
     let mut compare = |case: &str, input: &[u8]| {
         compare(tally, plan, &format!("{case}, fourth setting {fourth:?}"), input);
     };
-    let limits = at_limits(random, true, 5_000, fourth).bytes();
-    let mut long = limits.clone();
-    long.resize(VERY_LONG, 0);
     compare("P", &with_total(&file_p(), fourth).bytes());
     compare("the one-state file", &with_total(&one_state(), fourth).bytes());
     compare("the stick", &with_total(&stick(), fourth).bytes());
@@ -115,19 +114,13 @@ fn compare_set_files(tally: &mut Tally, plan: &Plan, random: &mut Random, fourth
     for (refusal, file) in one_wrong_each(&with_total(&stick(), fourth)) {
         compare(&format!("the stick, wrong for {refusal:?}"), &file);
     }
-    compare("a file at the limits", &limits);
-    compare("that file and one byte more", &[&limits[..], &[0]].concat());
-    compare("that file cut by a byte", &limits[..limits.len() - 1]);
-    compare("that file lengthened", &long);
     compare("the longest lines", &long_lines(fourth).bytes());
     for with_goal in [false, true] {
-        let chain = deep_chain(random, MAX_STATES, 8, with_goal, fourth);
+        let chain = deep_chain(random, OLD.states, 8, with_goal, fourth);
         compare("a deep chain", &chain.bytes());
     }
-    let dear = at_limits(random, true, MAX_PENALTY, fourth).bytes();
-    if ends_within(&dear, MOST_ROUNDS) {
-        compare("a file at the limits, the highest penalty", &dear);
-    }
+    let dear = of_length(random, PLAN_HOLDS, true, MAX_PENALTY, fourth);
+    compare("a file of 65,536 bytes, the highest penalty", &dear.bytes());
     if plan.is_finishing() {
         let coarse = with_tolerance(&endless(fourth).bytes(), MAX_TOLERANCE);
         compare("a run that is spent in the second part", &coarse);
@@ -138,24 +131,58 @@ fn compare_set_files(tally: &mut Tally, plan: &Plan, random: &mut Random, fourth
     compare("a spent run that walks to a dozen states", &fan);
 }
 
-/// Inputs empty and very long.
-fn compare_lengths(tally: &mut Tally, plan: &Plan) {
-    let mut long = file_p().bytes();
-    long.resize(VERY_LONG, 7);
-    compare(tally, plan, "an empty input", &[]);
-    compare(tally, plan, "P lengthened", &long);
-    compare(tally, plan, "zeros", &vec![0; VERY_LONG]);
+/// Inputs empty, of about as many bytes as `plan` holds, in a total, and longer.
+fn compare_lengths(tally: &mut Tally, plan: &Plan, random: &mut Random, fourth: Fourth) {
+    let mut compare = |case: &str, input: &[u8]| {
+        compare(tally, plan, &format!("{case}, fourth setting {fourth:?}"), input);
+    };
+    let lengthened = |file: &[u8], length: usize| {
+        let mut long = file.to_vec();
+        long.resize(length, 7);
+        long
+    };
+    compare("an empty input", &[]);
+    for file in [with_total(&file_p(), fourth), of_length(random, PLAN_HOLDS, true, 5_000, fourth)]
+    {
+        for length in [PLAN_HOLDS - 1, PLAN_HOLDS, PLAN_HOLDS + 1, VERY_LONG] {
+            compare(&format!("a file with {length} bytes"), &lengthened(&file.bytes(), length));
+        }
+    }
+    for length in [PLAN_HOLDS - 2].into_iter().chain(lengths_above(fourth)) {
+        let file = of_length(random, length, true, 5_000, fourth).bytes();
+        compare(&format!("a whole file of {length} bytes"), &file);
+    }
+    for length in [PLAN_HOLDS, PLAN_HOLDS + 1, VERY_LONG] {
+        compare(&format!("{length} zeros"), &vec![0; length]);
+    }
+}
+
+/// Files around the limits, those of before E9 and those in force, as far as `plan` holds them: those around
+/// the latter are cut, and meet question 1 or 2, but for some that have as many states and are whole. Each total
+/// has its turn. And the deepest walk that `plan` holds.
+fn compare_limits(tally: &mut Tally, plan: &Plan, random: &mut Random) {
+    let held = Counts::filling(PLAN_HOLDS - 100, MOST_SETTINGS);
+    let near = |limits: Counts| [limits.states - 1, limits.states, limits.states + 1];
+    let whole = [OLD, IN_FORCE].into_iter().flat_map(near).map(|states| Counts { states, ..held });
+    let around = [OLD.around(), IN_FORCE.around()].concat().into_iter().chain(whole);
+    for (counts, fourth) in around.zip(FOURTHS.into_iter().cycle()) {
+        let mut file = sized(random, counts, true, 5_000, fourth).bytes();
+        file.truncate(PLAN_HOLDS);
+        compare(tally, plan, &format!("{counts:?}, fourth setting {fourth:?}"), &file);
+    }
+    compare(tally, plan, "the deepest walk", &deepest_held(Some(10_000)).bytes());
 }
 
 /// Compares all files of a seed, with a tally that asks for enough of what its kind of run meets.
 fn compare_all(plan: &Plan, seed: u64, files: u64) -> Tally {
     let least = if plan.is_finishing() { &LEAST_FINISHING[..] } else { &LEAST };
     let tally = Tally::asking(&[LEAST_LONG]).in_each_total(least);
-    let mut tally = tally.meeting(FILE_QUESTIONS, LEAST_MET);
-    compare_lengths(&mut tally, plan);
+    let mut tally = tally.meeting(FILE_QUESTIONS.into_iter().chain([TOO_LONG]), LEAST_MET);
     for fourth in FOURTHS {
+        compare_lengths(&mut tally, plan, &mut Random::new(0), fourth);
         compare_set_files(&mut tally, plan, &mut Random::new(0), fourth);
     }
+    compare_limits(&mut tally, plan, &mut Random::new(0));
     for number in 0..files {
         let mut random = Random::of_file(seed, number);
         let draft = made(&mut random);

@@ -1,7 +1,9 @@
 //! Compares the day of the programs, end to end, with the solver and the audit written apart: `plan
 //! VALUES PICKS` prints and writes the run, `audit FILE VALUES PICKS` prints the verdict on what was
 //! written, on values a tick higher, and on tables damaged in many ways; in every total. So too `plan
-//! --finish VALUES PICKS`, whose tables are accepted under the file's tolerance and under 1.
+//! --finish VALUES PICKS`, whose tables are accepted under the file's tolerance and under 1. Of a file that
+//! `plan` does not hold, `audit` prints the verdict all the same. And both say of the files of `stored.rs`
+//! what they said before E9.
 //!
 //! `compare_programs [plan] [audit] [seed] [files]`
 
@@ -9,26 +11,29 @@ use comparisons::audit::{audit_file, Verdict};
 use comparisons::damage::{damaged, one_wrong_each};
 use comparisons::encode::Draft;
 use comparisons::examples::{file_p, one_state, stick, with_total};
-use comparisons::extremes::{at_limits, deep_chain, endless};
+use comparisons::extremes::{
+    about_limits, at_limits, deep_chain, endless, lengths_above, of_length,
+};
 use comparisons::finishing::{coarse, with_tolerance};
 use comparisons::harness::{argument, noise, Tally};
-use comparisons::limits::{FINISHING_TOLERANCE, GIVE_UP, MAX_STATES, MAX_TOLERANCE, NO_PICK};
+use comparisons::limits::*;
 use comparisons::listing::{
-    audit_line, ends_within, planned, planned_by, remainders_from, Planned,
+    audit_line, ends_within, planned, planned_at_any_length, planned_by, remainders_from, Planned,
 };
 use comparisons::made::made;
 use comparisons::problem::FILE_QUESTIONS;
 use comparisons::programs::{kind_words, taken, Folder, Program, Said};
 use comparisons::random::Random;
-use comparisons::solver::{Kind, OwnedTables};
+use comparisons::solver::{Kind, OwnedTables, KINDS};
+use comparisons::stored::{Stored, StoredTables};
 use comparisons::table_files::{picks_bytes, picks_of, values_bytes, values_of};
-use comparisons::totals::FOURTHS;
+use comparisons::totals::{Fourth, FOURTHS};
 use std::process::ExitCode;
 
 /// A made file whose run takes more rounds than this is left out.
 const MOST_ROUNDS: u64 = 20_000;
 /// The number of the first made file.
-const FIRST_MADE: u64 = 20;
+const FIRST_MADE: u64 = 25;
 /// Damaged tables tried on each file.
 const DAMAGES: usize = 6;
 /// How often each of the questions 15 to 19 must be met.
@@ -50,12 +55,23 @@ const LEAST: [(&str, u64); 11] = [
     ("audits, accepted", 750),
     ("refused", 500),
 ];
-/// How many finishing runs must be spent.
+/// How many finishing runs must be spent, and how many there must be of what E9 asks for.
 const LEAST_SPENT: (&str, u64) = ("finished plans, spent", 1);
+const LEAST_LONG: (&str, u64) = ("files above 65,536 bytes, audited", 30);
+const LEAST_STORED: (&str, u64) = ("stored files", 14);
 /// Files and tables far longer than any that could be meant, in bytes.
 const VERY_LONG: usize = 5_000_000;
-/// Lengths of files that hold more than they should: about a buffer of 65,536 bytes, and far above.
-const FILE_LENGTHS: [usize; 4] = [65_535, 65_536, 65_537, VERY_LONG];
+/// Lengths of files that are cut or hold more than they should: about what `plan` holds, about the longest
+/// file, and far above.
+const FILE_LENGTHS: [usize; 7] = [
+    PLAN_HOLDS - 1,
+    PLAN_HOLDS,
+    PLAN_HOLDS + 1,
+    LONGEST_FILE - 1,
+    LONGEST_FILE,
+    LONGEST_FILE + 1,
+    VERY_LONG,
+];
 /// The names of the tables in the folder.
 const NAMES: [&str; 2] = ["values", "picks"];
 
@@ -284,11 +300,16 @@ impl Day {
         self.tally.hold("audit", line.as_str(), asked);
     }
 
-    /// Inputs far longer than a file or a table that could be meant, and empty ones.
+    /// Inputs about what `plan` holds and about the longest file, far longer ones than could be meant, and
+    /// empty ones.
     fn compare_lengths(&mut self, random: &mut Random) {
-        for (case, draft) in [("P", file_p()), ("limits", at_limits(random, true, 5_000, None))] {
+        for (case, draft) in [
+            ("P", file_p()),
+            ("held", of_length(random, PLAN_HOLDS, true, 5_000, None)),
+            ("limits", at_limits(random, true, 5_000, Some(10_000))),
+        ] {
             let file = draft.bytes();
-            let tables = planned(&file).tables.expect("not refused");
+            let tables = planned_at_any_length(Kind::Plain, &file).tables.expect("not refused");
             let tables = [values_bytes(&tables.values), picks_bytes(&tables.picks)];
             self.compare_long_tables(case, &file, &tables);
             for length in FILE_LENGTHS {
@@ -297,12 +318,57 @@ impl Day {
                 long.resize(length, 0);
                 self.folder.put("file", Some(&long));
                 self.audit(&long, &tables);
-                self.plan(Kind::Plain, &long, |_| None);
+                for kind in KINDS {
+                    self.plan(kind, &long, |_| None);
+                    self.clear();
+                }
             }
         }
         for (case, file) in [("empty", vec![]), ("noise", noise(random, VERY_LONG))] {
             self.compare(random, case, &file);
         }
+    }
+
+    /// Files above what `plan` holds, in a total: whatever stands under the names stays, and the run's tables,
+    /// which the solver written apart makes, are audited as those of any file are.
+    fn compare_long_files(&mut self, random: &mut Random, fourth: Fourth) {
+        for (kind, length) in KINDS.into_iter().cycle().zip(lengths_above(fourth)) {
+            let file = of_length(random, length, true, 5_000, fourth).bytes();
+            self.tally.case = format!("a {kind:?} run on {length} bytes, {fourth:?}");
+            self.tally.count_on(&file, LEAST_LONG.0);
+            self.folder.put("file", Some(&file));
+            let before = |length| random.once_in(2).then(|| any_of(random, length));
+            self.plan(kind, &file, before);
+            let Planned { lines, tables } = planned_at_any_length(kind, &file);
+            let tables = tables.expect("not refused");
+            let solved = solved_line(&lines).expect("solved");
+            let written = [values_bytes(&tables.values), picks_bytes(&tables.picks)];
+            self.audit_solved(&file, &written, solved);
+            self.raise_a_tick(random, &file, &tables);
+            let tables = damaged_tables(random, &tables);
+            self.audit(&file, &tables);
+        }
+    }
+
+    /// A file from before E9: what the programs print and write of it is what they did then.
+    fn compare_stored(&mut self, stored: &Stored) {
+        self.tally.case = format!("the stored file {}", stored.name());
+        self.tally.count(LEAST_STORED.0);
+        self.clear();
+        let file = stored.file();
+        let finished = self.plan.run(&self.folder, kind_words(Kind::Finishing), &file);
+        self.tally.hold("what is finished", &finished, &Said::only(stored.lines(Kind::Finishing)));
+        let planned = self.run_plan(Kind::Plain, &file);
+        self.tally.hold("what is planned", &planned, &Said::only(stored.lines(Kind::Plain)));
+        let given = NAMES.map(|name| self.folder.get(name));
+        let Some(StoredTables { tables, line }) = stored.tables() else {
+            self.tally.hold("the tables", &given, &[None, None]);
+            return;
+        };
+        self.tally.hold("the tables", &given, &tables.map(Some));
+        self.folder.put("file", Some(&file));
+        let audited = self.audit.run(&self.folder, &["file", NAMES[0], NAMES[1]], &[]);
+        self.tally.hold("what is audited", &audited, &Said::only(line));
     }
 
     /// The examples in each total, and a run that is spent; and the stick with one thing wrong for each
@@ -406,8 +472,9 @@ fn draft_of(random: &mut Random, number: u64) -> Draft {
     match number {
         0..=4 => file_p(),
         5..=9 => stick(),
-        10..=14 => at_limits(random, number.is_multiple_of(2), 5_000, fourth),
-        15..=19 => deep_chain(random, MAX_STATES, 8, number.is_multiple_of(2), fourth),
+        10..=14 => of_length(random, PLAN_HOLDS, true, 5_000, fourth),
+        15..=19 => about_limits(random, number.is_multiple_of(2), 5_000, fourth),
+        20..=24 => deep_chain(random, OLD.states, 8, number.is_multiple_of(2), fourth),
         _ => made(random),
     }
 }
@@ -416,12 +483,15 @@ fn main() -> ExitCode {
     let (plan, audit) = (Program::named(1, "plan"), Program::named(2, "audit"));
     let (seed, files) = (argument(3, 1), argument(4, 300));
     let folder = Folder::new("compare-programs");
-    let tally = Tally::asking(&[LEAST_SPENT]).in_each_total(&LEAST);
-    let tally = tally.meeting(FILE_QUESTIONS, LEAST_OF_FILES).meeting(15..=19, LEAST_MET);
+    let tally = Tally::asking(&[LEAST_SPENT, LEAST_STORED]).in_each_total(&LEAST);
+    let tally = tally.in_each_total(&[LEAST_LONG]).meeting(FILE_QUESTIONS, LEAST_OF_FILES);
+    let tally = tally.meeting(15..=19, LEAST_MET);
     let mut day = Day { plan, audit, folder, tally };
     day.compare_p();
     day.compare_coarse();
+    Stored::all().iter().for_each(|stored| day.compare_stored(stored));
     day.compare_lengths(&mut Random::new(seed));
+    FOURTHS.iter().for_each(|&fourth| day.compare_long_files(&mut Random::new(seed), fourth));
     day.compare_totals(&mut Random::new(seed));
     for number in 0..files {
         let mut random = Random::of_file(seed, number);

@@ -6,14 +6,14 @@
 use comparisons::damage::{damaged, one_wrong_each, NO_TOTALS};
 use comparisons::encode::Draft;
 use comparisons::examples::{file_p, one_state, stick, with_total};
-use comparisons::extremes::{at_limits, deep_chain};
+use comparisons::extremes::{at_limits, deep_chain, lengths_above, of_length, sized};
 use comparisons::harness::{argument, noise, Tally};
 use comparisons::library::{asked_of_check, asked_of_lent, check, rows, ANSWER, PASSED};
-use comparisons::limits::{MAX_PENALTY, MAX_STATES, ROW_BYTES};
+use comparisons::limits::{IN_FORCE, MAX_PENALTY, MAX_STATES, OLD, ROW_BYTES};
 use comparisons::made::made;
 use comparisons::problem::{lookup, Problem, FILE_QUESTIONS};
 use comparisons::random::Random;
-use comparisons::totals::FOURTHS;
+use comparisons::totals::{Fourth, FOURTHS};
 use std::process::ExitCode;
 
 /// How often each of the questions 1 to 11 must be met.
@@ -42,7 +42,9 @@ fn compare_check(random: &mut Random, tally: &mut Tally, file: &[u8]) {
 fn compare_rows(random: &mut Random, tally: &mut Tally, file: &[u8]) {
     let states = Problem::read(file).map_or(3, |problem| problem.states.len()) as u64;
     let within = random.below(states as usize) as u64;
-    let far = [states, within + 65_536, within + (1 << 32), 1_024, 1 << 63, u64::MAX];
+    let limits = [OLD.states, MAX_STATES].map(|limit| limit as u64);
+    let far =
+        [states, within + 65_536, within + (1 << 32), limits[0], limits[1], 1 << 63, u64::MAX];
     for state in [0, within, states - 1, random.pick(&far)] {
         let stretch = lookup(file, state);
         let lengths = [0, stretch.len(), stretch.len().saturating_sub(1 + random.below(ROW_BYTES))];
@@ -93,6 +95,24 @@ fn compare_cuts(random: &mut Random, tally: &mut Tally, name: &str, whole: Vec<u
     compare(random, tally, &long);
 }
 
+/// Files around the limits, those of before E9 and those in force, and files of lengths above what `plan`
+/// holds; and the longest with a byte more and a byte less.
+fn compare_limits(random: &mut Random, tally: &mut Tally, fourth: Fourth) {
+    for counts in [OLD.around(), IN_FORCE.around()].concat() {
+        tally.case = format!("{counts:?}, fourth setting {fourth:?}");
+        let with_goal = random.once_in(2);
+        let file = sized(random, counts, with_goal, 5_000, fourth).bytes();
+        compare(random, tally, &file);
+    }
+    for length in lengths_above(fourth) {
+        tally.case = format!("a file of {length} bytes, fourth setting {fourth:?}");
+        let file = of_length(random, length, true, 5_000, fourth).bytes();
+        compare(random, tally, &file);
+        compare(random, tally, &file[..length - 1]);
+        compare(random, tally, &[&file[..], &[0]].concat());
+    }
+}
+
 /// P in each total: cut everywhere, also inside the fourth setting; and P and the stick with one thing
 /// wrong for each question.
 fn compare_totals(random: &mut Random, tally: &mut Tally) {
@@ -114,6 +134,9 @@ fn main() -> ExitCode {
     let (seed, files) = (argument(1, 1), argument(2, 30_000));
     let mut tally = Tally::default().in_each_total(&LEAST).meeting(FILE_QUESTIONS, LEAST_MET);
     compare_totals(&mut Random::new(seed), &mut tally);
+    for fourth in FOURTHS {
+        compare_limits(&mut Random::new(seed), &mut tally, fourth);
+    }
     for number in 0..files {
         let mut random = Random::of_file(seed, number);
         let draft = draft_of(&mut random, number);

@@ -10,7 +10,7 @@ use comparisons::audit::{audit_file, Verdict};
 use comparisons::damage::{damaged, one_wrong_each};
 use comparisons::encode::Draft;
 use comparisons::examples::{file_p, one_state, stick, with_total};
-use comparisons::extremes::{at_limits, deep_chain};
+use comparisons::extremes::{at_limits, deep_chain, deepest, sized};
 use comparisons::finishing::{
     coarse, giving_up, inexact_states, most_rounds, settling_chain, wavering, with_tolerance,
 };
@@ -404,6 +404,16 @@ fn compare_refused(random: &mut Random, comparison: &mut Comparison) {
     }
 }
 
+/// Compares the runs on files around the limits, those of before E9 and those in force. Each total has its
+/// turn.
+fn compare_limits(random: &mut Random, comparison: &mut Comparison) {
+    for (number, counts) in [OLD.around(), IN_FORCE.around()].concat().into_iter().enumerate() {
+        let fourth = FOURTHS[number % FOURTHS.len()];
+        let file = sized(random, counts, true, 5_000, fourth).bytes();
+        comparison.compare_file(random, format!("{counts:?}, fourth setting {fourth:?}"), &file);
+    }
+}
+
 /// Compares finishing runs, in each total, on a file whose tolerance is coarse, on chains that take all the
 /// rounds they may, and on picks that the second part changes.
 fn compare_finished(random: &mut Random, comparison: &mut Comparison) {
@@ -428,6 +438,8 @@ fn compare_finished(random: &mut Random, comparison: &mut Comparison) {
 fn draft_of(random: &mut Random, number: u64) -> Draft {
     let with_goal = random.once_in(2);
     let fourth = FOURTHS[number as usize % FOURTHS.len()];
+    // A walk twice as deep takes four times as long, so most chains are as long as before E9.
+    let deep = if number.is_multiple_of(4) { MAX_STATES } else { OLD.states };
     match number {
         0..=4 => with_total(&file_p(), fourth),
         5..=9 => one_state().with_fourth(fourth),
@@ -435,8 +447,9 @@ fn draft_of(random: &mut Random, number: u64) -> Draft {
             let penalty = random.pick(&[1, 900, 5_000, MAX_PENALTY]);
             at_limits(random, with_goal, penalty, fourth)
         }
-        20..=24 => deep_chain(random, MAX_STATES, 8, with_goal, fourth),
-        25..=29 => deep_chain(random, MAX_STATES, 1, with_goal, fourth),
+        20..=24 => deep_chain(random, deep, 8, with_goal, fourth),
+        28 => deepest(fourth),
+        25..=29 => deep_chain(random, deep, 1, with_goal, fourth),
         30..=34 => deep_chain(random, 32, MAX_IN_BYTE, with_goal, fourth),
         _ => made(random),
     }
@@ -460,6 +473,8 @@ fn compare(seed: u64, files: u64) -> ExitCode {
     let mut finishing = Comparison::new(Kind::Finishing, tally, LEAST_OF_FINISHING);
     compare_refused(&mut Random::new(seed), &mut plain);
     compare_refused(&mut Random::new(seed), &mut finishing);
+    compare_limits(&mut Random::new(seed), &mut plain);
+    compare_limits(&mut Random::new(seed), &mut finishing);
     compare_finished(&mut Random::new(seed), &mut finishing);
     for number in 0..files {
         let mut random = Random::of_file(seed, number);

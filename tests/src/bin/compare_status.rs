@@ -7,10 +7,10 @@
 
 use comparisons::encode::Draft;
 use comparisons::examples::{file_p, stick, with_total};
-use comparisons::extremes::{at_limits, deep_chain, endless};
+use comparisons::extremes::{deep_chain, deepest_held, endless, of_length};
 use comparisons::finishing::coarse;
 use comparisons::harness::Tally;
-use comparisons::limits::MAX_STATES;
+use comparisons::limits::{OLD, PLAN_HOLDS};
 use comparisons::listing::{plan_lines, planned, planned_by, Planned};
 use comparisons::programs::{kind_words, run_to_end, said, start, Folder, Program, PLAN_USAGE};
 use comparisons::random::Random;
@@ -205,8 +205,10 @@ impl Room {
             (stick().bytes(), 0),
             (in_100.bytes(), 0),
             (in_100.with_fourth(Some(99)).bytes(), 1),
-            (at_limits(random, true, 5_000, None).bytes(), 0),
-            (deep_chain(random, MAX_STATES, 8, true, Some(10_000)).bytes(), 0),
+            (of_length(random, PLAN_HOLDS, true, 5_000, None).bytes(), 0),
+            (of_length(random, PLAN_HOLDS + 2, true, 5_000, None).bytes(), 1),
+            (vec![0; PLAN_HOLDS + 1], 1),
+            (deepest_held(Some(10_000)).bytes(), 0),
             (coarse().bytes(), 0),
             (endless(None).bytes(), 3),
             (vec![], 1),
@@ -251,7 +253,7 @@ impl Room {
     fn compare_unwritable(&mut self) {
         let bytes: Vec<u8> = (1..=255).filter(|&byte| byte != b'/').collect();
         let odd = OsString::from_vec([b"nowhere/", &bytes[..]].concat());
-        let file = deep_chain(&mut Random::new(2), MAX_STATES, 8, true, None).bytes();
+        let file = deep_chain(&mut Random::new(2), OLD.states, 8, true, None).bytes();
         for name in [OsStr::new("nowhere/new"), OsStr::new("."), OsStr::new(""), &odd] {
             self.compare(|r| &r.plan, WHOLE, &[name, OsStr::new("new")], &file_p().bytes(), 2);
             self.compare(|r| &r.plan, WHOLE, &[OsStr::new("new"), name], &file, 2);

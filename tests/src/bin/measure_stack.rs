@@ -1,16 +1,17 @@
-//! Measures the stack that the product needs at the limits: 1,024 states one below the other, 4,096
-//! rows, 8,192 outcomes, four settings. The library runs on threads with smaller and smaller stacks,
-//! each in a process of its own; the programs run under `ulimit -s`, and under `ulimit -v` for all
-//! their memory.
+//! Measures the stack that the product needs at the limits: 2,048 states one below the other, 8,192
+//! rows, 16,384 outcomes, four settings; `plan` as much of it as it holds. The library runs on threads with
+//! smaller and smaller stacks, each in a process of its own; the programs run under `ulimit -s`, and under
+//! `ulimit -v` for all their memory. Where the system begins a program's stack is a matter of chance, so what is
+//! enough must be so each of many times.
 //!
 //! `measure_stack [plan] [audit] [sheet]`
 
 use comparisons::audit::Verdict;
-use comparisons::extremes::deepest;
+use comparisons::extremes::{deepest, deepest_held};
 use comparisons::follower::Record;
 use comparisons::library::{self, ACCEPTED, ANSWER, DONE, PASSED, SOLVED, WRITTEN};
 use comparisons::limits::PLAN_ROUNDS;
-use comparisons::listing::{audit_line, planned};
+use comparisons::listing::{audit_line, planned, planned_at_any_length};
 use comparisons::programs::{run, said, start, Folder, Program};
 use comparisons::sheets::sheets;
 use comparisons::solver::{Kind, OwnedTables};
@@ -20,8 +21,12 @@ use std::process::Command;
 
 /// The steps of the measuring, in KiB: a page.
 const STEP: u64 = 4;
+/// The most stack that anything may need, in KiB.
+const BAR: u64 = 512;
 /// More than anything needs, in KiB.
 const PLENTY: u64 = 16 * 1_024;
+/// How often a program must do with what is enough.
+const TIMES: usize = 40;
 /// What a child prints when it came to its end.
 const ENDED: &str = "ended\n";
 /// The largest file has count 4.
@@ -79,7 +84,7 @@ fn child(function: &str, kib: &str) {
     let function = function.to_string();
     let stack = kib.parse::<usize>().expect("a whole number") * 1_024;
     let file = deepest(LARGEST).bytes();
-    let mut tables = planned(&file).tables.expect("whole");
+    let mut tables = planned_at_any_length(Kind::Plain, &file).tables.expect("whole");
     let thread = std::thread::Builder::new().stack_size(stack);
     let work = move || match function.as_str() {
         "solve" => run_library(Kind::Plain, &file, &mut tables),
@@ -102,13 +107,13 @@ fn library_does(function: &str, kib: u64) -> bool {
     said(start(command.args(["child", function, &kib.to_string()]))).output == ENDED
 }
 
-/// Whether a program does with so much of what a letter of `ulimit` names.
+/// Whether a program does with so much of what a letter of `ulimit` names, each time.
 fn program_does(command: &Command, limit: &str, kib: u64, input: &[u8], asked: &str) -> bool {
     let mut limited = Command::new("sh");
     limited.args(["-c", LIMITED, "sh", limit, &kib.to_string()]);
     limited.arg(command.get_program()).args(command.get_args()).env_clear();
     limited.current_dir(command.get_current_dir().expect("a folder"));
-    run(&mut limited, input).output == asked
+    (0..TIMES).all(|_| run(&mut limited, input).output == asked)
 }
 
 /// The least number of KiB with which something does.
@@ -125,11 +130,17 @@ fn least(does: impl Fn(u64) -> bool) -> u64 {
     enough
 }
 
+/// A stack, and whether it is within the bar.
+fn held(stack: u64) -> String {
+    let word = if stack <= BAR { "within" } else { "above" };
+    format!("{stack} KiB of stack, {word} the bar of {BAR}")
+}
+
 /// Measures a program.
 fn measure(name: &str, command: &Command, input: &[u8], asked: &str) {
     let stack = least(|kib| program_does(command, "-s", kib, input, asked));
     let memory = least(|kib| program_does(command, "-v", kib, input, asked));
-    println!("{name}: {stack} KiB of stack, {memory} KiB of memory in all");
+    println!("{name}: {}; {memory} KiB of memory in all", held(stack));
 }
 
 fn main() {
@@ -139,11 +150,10 @@ fn main() {
         _ => {}
     }
     for function in ["solve", "finish", "audit", "check", "rows", "open", "report", "set_form"] {
-        println!("cuulipso_{function}: {} KiB of stack", least(|kib| library_does(function, kib)));
+        println!("cuulipso_{function}: {}", held(least(|kib| library_does(function, kib))));
     }
-    let file = deepest(LARGEST).bytes();
-    let asked = planned(&file);
-    let tables = asked.tables.expect("whole");
+    let (file, held) = (deepest(LARGEST).bytes(), deepest_held(LARGEST).bytes());
+    let tables = planned_at_any_length(Kind::Plain, &file).tables.expect("whole");
     let folder = Folder::new("measure-stack");
     folder.put("file", Some(&file));
     folder.put("values", Some(&values_bytes(&tables.values)));
@@ -151,7 +161,7 @@ fn main() {
     let (plan, audit) = (Program::named(1, "plan"), Program::named(2, "audit"));
     let mut command = Command::new(plan.path());
     command.args(["new-values", "new-picks"]).current_dir(folder.path(""));
-    measure("plan", &command, &file, &asked.lines);
+    measure("plan", &command, &held, &planned(&held).lines);
     let mut command = Command::new(audit.path());
     command.args(["file", "values", "picks"]).current_dir(folder.path(""));
     let line = audit_line(Verdict::Accepted { least_cost: 1_000 });

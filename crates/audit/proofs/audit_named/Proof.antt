@@ -16,9 +16,6 @@ line-within c =
     (read-all (c .before .before .before .before .before .before .before .before .before .before .before .before .read-named2 .last .1 .1 .0) (c .before .before .before .before .before .before .before .before .before .before .before .before .read-named2 .result .length))
     (read-all (c .before .before .before .before .before .before .before .read-named3 .last .1 .1 .0) (c .before .before .before .before .before .before .before .read-named3 .result .length)) .line .within
 
-large-buffer-requires : tie.Need-large-buffer-requires
-large-buffer-requires c κs = search needs
-
 slice-aggregate-read-named : tie.Need-slice-aggregate-read-named
 slice-aggregate-read-named c = search needs
 
@@ -86,7 +83,6 @@ pub audit-named-spec : {M : Type 1} → statement M
 audit-named-spec =
     tie.close
     (tie.spec
-    large-buffer-requires
     slice-aggregate-read-named
     slice-aggregate-read-named-2
     read-named-requires

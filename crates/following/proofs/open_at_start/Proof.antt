@@ -1,52 +1,47 @@
--- `open_at_start` answers the audit's refusal, or the record at the start.
+-- `open_at_start` opens with an index of its own, small or large.
 -- Made by `places make` from answers/open_at_start.ans: edit that file, and not this one.
-use Prim.Native.Nat.{ℕ}
-use mathlib.Core.Path.{_∙_, sym, ap}
-use lib.ListN.{length-replicate}
-use mir.Syntax.{w64}
-use mir.ValLaws.{toZ-ofZ}
-use Rattle.model.specs.Answers.{auditedOf}
-use Rattle.reading.specs.Tests.{indexSize}
-use Rattle.following.proofs.Moves.{opening-refused, opening-done}
+use mathlib.Core.Path.{_∙_, sym}
 use borrow.Author.Needs.{needs}
 use Rattle.following.proofs.open_at_start.Statement.{statement}
 use Rattle.following.proofs.open_at_start.Tie as tie
 
-audit-file-requires : tie.Need-audit-file-requires
-audit-file-requires c κs = length-replicate {A = ℕ} indexSize 0
+has-few-rows-requires : tie.Need-has-few-rows-requires
+has-few-rows-requires c κs = search needs
 
-enum-known-audited : tie.Need-enum-known-audited
-enum-known-audited c = search needs
+small-index-requires : tie.Need-small-index-requires
+small-index-requires c κs = search needs
 
-turned-down-requires : tie.Need-turned-down-requires
-turned-down-requires c κs = search needs
+slice-aggregate-open-by : tie.Need-slice-aggregate-open-by
+slice-aggregate-open-by c = search needs
+
+open-by-requires : tie.Need-open-by-requires
+open-by-requires c κs = c .before .small-index .ensures _ (sym (c .before .before .before .has-few-rows .ensures) ∙ (c .before .before .if1 .taken))
 
 returns : tie.Need-returns
-returns c =
-    opening-refused (c .before .before .before .before .before .before .before .before .before .args .file .now) (c .before .before .before .before .before .before .before .before .before .args .values .now) (c .before .before .before .before .before .before .before .before .before .args .picks .now) (c .before .before .before .before .before .before .before .before .before .args .w)
-    (sym (c .before .before .before .before .audit-file .ensures .answer) ∙ ap auditedOf (c .before .before .audited .given .1))
-    (toZ-ofZ w64 _ (record { sfits = c .before .known-told .given .1 .1 .0 .1 })) (c .turned-down .ensures)
+returns c = c .before .open-by .ensures
 
-enum-told : tie.Need-enum-told
-enum-told c = search needs
+large-index-requires : tie.Need-large-index-requires
+large-index-requires c κs = search needs
 
-start-of-requires : tie.Need-start-of-requires
-start-of-requires c κs = c .before .before .audit-file .ensures .walkable _ (ap auditedOf (c .enum-told .given .1)) .ready .indexed .whole
+slice-aggregate-open-by-2 : tie.Need-slice-aggregate-open-by-2
+slice-aggregate-open-by-2 c = search needs
+
+open-by-requires-2 : tie.Need-open-by-requires-2
+open-by-requires-2 c κs = c .before .large-index .ensures _
 
 returns-2 : tie.Need-returns-2
-returns-2 c =
-    opening-done (c .before .before .before .before .before .before .before .before .args .file .now) (c .before .before .before .before .before .before .before .before .args .values .now) (c .before .before .before .before .before .before .before .before .args .picks .now) (c .before .before .before .before .before .before .before .before .args .w)
-    (sym (c .before .before .before .audit-file .ensures .answer) ∙ ap auditedOf (c .before .enum-told .given .1))
-    (ap (λ (s : ℕ). record { state = s; moves = 0; seconds = 0; mark = 0 }) (c .start-of .ensures))
+returns-2 c = c .before .open-by2 .ensures
 
 pub open-at-start-spec : {M : Type 1} → statement M
 open-at-start-spec =
     tie.close
     (tie.spec
-    audit-file-requires
-    enum-known-audited
-    turned-down-requires
+    has-few-rows-requires
+    small-index-requires
+    slice-aggregate-open-by
+    open-by-requires
     returns
-    enum-told
-    start-of-requires
+    large-index-requires
+    slice-aggregate-open-by-2
+    open-by-requires-2
     returns-2)

@@ -10,17 +10,14 @@ use Rattle.plan.proofs.plan_input.Statement.{statement}
 use Rattle.plan.proofs.plan_input.Tie as tie
 
 -- what is told lies within what was lent
-text-within : (c : tie.After-plan) → c .plan .result .length ≤ length (c .plan .last .1 .1 .1 .1 .1 .0)
-text-within c = c .plan .ensures _ (read-all (c .before .before .before .before .before .before .before .before .read-whole .last .1 .0) (c .before .before .before .before .before .before .before .before .read-whole .result .length)) .text .within
+text-within : (c : tie.After-plan) → c .plan .result .length ≤ length (c .plan .last .1 .0)
+text-within c = c .plan .ensures _ (read-all (c .before .before .before .before .before .before .before .read-whole .last .1 .0) (c .before .before .before .before .before .before .before .read-whole .result .length)) .text .within
 
 values-hold : (c : tie.After-plan) → c .plan .result .states ≤ length (c .plan .last .1 .1 .1 .0)
-values-hold c = c .plan .ensures _ (read-all (c .before .before .before .before .before .before .before .before .read-whole .last .1 .0) (c .before .before .before .before .before .before .before .before .read-whole .result .length)) .values-hold
+values-hold c = c .plan .ensures _ (read-all (c .before .before .before .before .before .before .before .read-whole .last .1 .0) (c .before .before .before .before .before .before .before .read-whole .result .length)) .values-hold
 
 picks-hold : (c : tie.After-plan) → c .plan .result .states ≤ length (c .plan .last .1 .1 .1 .1 .0)
-picks-hold c = c .plan .ensures _ (read-all (c .before .before .before .before .before .before .before .before .read-whole .last .1 .0) (c .before .before .before .before .before .before .before .before .read-whole .result .length)) .picks-hold
-
-large-buffer-requires : tie.Need-large-buffer-requires
-large-buffer-requires c κs = search needs
+picks-hold c = c .plan .ensures _ (read-all (c .before .before .before .before .before .before .before .read-whole .last .1 .0) (c .before .before .before .before .before .before .before .read-whole .result .length)) .picks-hold
 
 slice-aggregate-read-whole : tie.Need-slice-aggregate-read-whole
 slice-aggregate-read-whole c = search needs
@@ -40,11 +37,11 @@ fail-requires c κs = search needs
 returns : tie.Need-returns
 returns c = search needs
 
-array-share-prefix-file : tie.Need-array-share-prefix-file
-array-share-prefix-file c = c .before .before .before .read-whole .ensures
+array-share-prefix-page : tie.Need-array-share-prefix-page
+array-share-prefix-page c = c .before .before .before .before .read-whole .ensures
 
 slice-aggregate-can-save : tie.Need-slice-aggregate-can-save
-slice-aggregate-can-save c = sym (length-take-le _ _ (c .before .before .before .before .read-whole .ensures))
+slice-aggregate-can-save c = sym (length-take-le _ _ (c .before .before .before .before .before .read-whole .ensures))
 
 can-save-requires : tie.Need-can-save-requires
 can-save-requires c κs = search needs
@@ -55,8 +52,8 @@ returns-2 c = search needs
 plan-requires : tie.Need-plan-requires
 plan-requires c κs = search needs
 
-array-share-prefix-out : tie.Need-array-share-prefix-out
-array-share-prefix-out c = text-within c
+array-share-prefix-page-2 : tie.Need-array-share-prefix-page-2
+array-share-prefix-page-2 c = text-within c
 
 slice-aggregate-write-all : tie.Need-slice-aggregate-write-all
 slice-aggregate-write-all c = sym (length-take-le _ _ (text-within (c .before)))
@@ -98,19 +95,18 @@ pub plan-input-spec : {M : Type 1} → statement M
 plan-input-spec =
     tie.close
     (tie.spec
-    large-buffer-requires
     slice-aggregate-read-whole
     read-whole-requires
     slice-aggregate-fail
     slice-aggregate-fail-2
     fail-requires
     returns
-    array-share-prefix-file
+    array-share-prefix-page
     slice-aggregate-can-save
     can-save-requires
     returns-2
     plan-requires
-    array-share-prefix-out
+    array-share-prefix-page-2
     slice-aggregate-write-all
     write-all-requires
     slice-aggregate-fail-3

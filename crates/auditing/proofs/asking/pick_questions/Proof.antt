@@ -19,7 +19,7 @@ use Rattle.auditing.proofs.asking.pick_questions.Statement.{statement}
 use Rattle.auditing.proofs.asking.pick_questions.Tie as tie
 
 -- the picks say what they cost
-costed : (c : tie.Else1) → Costed (c .before .before .before .before .before .before .before .before .before .before .args .file .now) (c .before .before .before .before .before .before .before .before .before .before .args .picks .now) (c .before .before .before .before .before .walk .result .marks)
+costed : (c : tie.Else1) → Costed (c .before .before .before .before .before .before .before .before .before .before .args .file .now) (c .before .before .before .before .before .before .before .before .before .before .args .picks .now) (c .before .before .before .before .walk .result .marks)
 costed c =
     fits-costed (c .before .before .before .before .before .before .before .before .before .before .pre .walkable) _ _ (omega (arith, c .before .before .before .before .before .before .before .before .before .before .pre .states-are, c .before .before .before .before .before .before .before .before .before .before .pre .picks-long))
     (omega (arith, c .before .before .before .before .before .before .before .before .before .before .pre .states-are, c .before .stray-state .ensures, c .if1 .left))
@@ -31,12 +31,9 @@ slack-costs : (c : tie.Then2)
 slack-costs c =
     slack-pick (costed (c .before .before .before .before .before .before)) (c .before .before .before .before .before .before .before .before .before .before .before .before .before .before .before .before .args .values .now) (c .before .slack-state .ensures) (omega (arith, c .before .before .before .before .before .before .before .before .before .before .before .before .before .before .before .before .pre .states-are, c .if2 .taken))
 
-slice-aggregate-walk : tie.Need-slice-aggregate-walk
-slice-aggregate-walk c = omega arith
-
 walk-requires : tie.Need-walk-requires
 walk-requires c κs =
-    (c .before .before .before .before .pre .walkable, omega (arith, c .before .before .before .before .pre .states-are, c .before .before .before .before .pre .picks-long), omega (arith, c .before .before .before .before .pre .walkable .formed .states-high))
+    (c .before .before .before .before .before .pre .walkable, omega (arith, c .before .before .before .before .before .pre .states-are, c .before .before .before .before .before .pre .picks-long), omega (arith, c .before .before .before .before .before .pre .walkable .formed .states-high))
 
 stray-state-requires : tie.Need-stray-state-requires
 stray-state-requires c κs = (c .before .before .before .before .before .before .before .before .pre .walkable, c .before .before .before .before .before .before .before .before .pre .states-are, c .before .before .before .before .before .before .before .before .pre .picks-long)
@@ -45,7 +42,7 @@ refused-requires : tie.Need-refused-requires
 refused-requires c κs = omega (arith, c .before .before .before .before .before .before .before .before .before .before .pre .states-are, c .before .before .before .before .before .before .before .before .before .before .pre .walkable .formed .states-high)
 
 returns : tie.Need-returns
-returns c = c .refused .ensures ∙ pick-stop-18 (c .before .before .before .before .before .before .before .before .before .before .before .pre) (c .before .before .before .before .before .before .walk .ensures .marks) (c .before .before .stray-state .ensures) (c .before .if1 .taken)
+returns c = c .refused .ensures ∙ pick-stop-18 (c .before .before .before .before .before .before .before .before .before .before .before .pre) (c .before .before .before .before .before .walk .ensures .marks) (c .before .before .stray-state .ensures) (c .before .if1 .taken)
 
 give-up-cost-requires : tie.Need-give-up-cost-requires
 give-up-cost-requires c κs = (c .before .before .before .before .before .before .before .before .before .before .pre .walkable .ready .indexed .whole, c .before .before .before .before .before .before .before .before .before .before .pre .walkable .formed .penalty-high)
@@ -88,7 +85,7 @@ shared-slice-read-excess c = omega (arith, c .before .before .before .before .be
 excess-requires : tie.Need-excess-requires
 excess-requires c κs =
     rw (c .before .pick-value .ensures)
-    (pick-value-low (c .before .before .before .before .before .before .before .before .before .before .before .before .before .before .before .before .before .before .before .pre .walkable .formed) (byState (c .before .before .before .before .before .before .before .before .before .before .before .before .before .before .before .before .before .before .before .args .values .now)) (λ s. c .before .before .before .before .before .before .before .before .before .before .before .before .before .before .before .before .before .shared-slice-known2 .given s .fits) _
+    (pick-value-low (c .before .before .before .before .before .before .before .before .before .before .before .before .before .before .before .before .before .before .before .pre .walkable .formed) (byState (c .before .before .before .before .before .before .before .before .before .before .before .before .before .before .before .before .before .before .before .args .values .now)) (λ s. c .before .before .before .before .before .before .before .before .before .before .before .before .before .before .before .before .shared-slice-known3 .given s .fits) _
     (slack-costs (c .before .before .before)))
 
 refused-requires-2 : tie.Need-refused-requires-2
@@ -97,25 +94,24 @@ refused-requires-2 c κs = omega (arith, c .before .before .before .before .befo
 returns-2 : tie.Need-returns-2
 returns-2 c =
     c .refused2 .ensures
-    ∙ pick-stop-19 (c .before .before .before .before .before .before .before .before .before .before .before .before .before .before .before .before .before .before .before .before .before .pre) (c .before .before .before .before .before .before .before .before .before .before .before .before .before .before .before .before .walk .ensures .marks) (c .before .before .before .before .before .before .before .before .before .before .before .before .stray-state .ensures) (c .before .before .before .before .before .before .before .before .before .before .before .if1 .left) (c .before .before .before .before .before .before .slack-state .ensures)
+    ∙ pick-stop-19 (c .before .before .before .before .before .before .before .before .before .before .before .before .before .before .before .before .before .before .before .before .before .pre) (c .before .before .before .before .before .before .before .before .before .before .before .before .before .before .before .walk .ensures .marks) (c .before .before .before .before .before .before .before .before .before .before .before .before .stray-state .ensures) (c .before .before .before .before .before .before .before .before .before .before .before .if1 .left) (c .before .before .before .before .before .before .slack-state .ensures)
     (c .before .before .before .pick-value .ensures) (toZ-ofZ w64 _ (record { sfits = c .before .excess .ok }) ∙ (c .before .excess .ensures)) (c .before .before .before .before .before .if2 .taken)
 
 least-cost-requires : tie.Need-least-cost-requires
 least-cost-requires c κs =
-    let start = walked-start (c .before .before .before .before .before .before .before .before .before .before .before .before .before .before .before .before .before .before .pre .walkable) (c .before .before .before .before .before .before .before .before .before .before .before .before .before .before .before .before .before .before .args .picks .now) (c .before .before .before .before .before .before .before .before .before .before .before .before .before .walk .ensures .marks) in
+    let start = walked-start (c .before .before .before .before .before .before .before .before .before .before .before .before .before .before .before .before .before .before .pre .walkable) (c .before .before .before .before .before .before .before .before .before .before .before .before .before .before .before .before .before .before .args .picks .now) (c .before .before .before .before .before .before .before .before .before .before .before .before .walk .ensures .marks) in
     (c .before .before .before .before .before .before .before .before .before .before .before .before .before .before .before .before .before .before .pre .walkable, costed (c .before .before .before .before .before .before .before .before), omega (arith, c .before .before .before .before .before .before .before .before .before .before .before .before .before .before .before .before .before .before .pre .states-are), start)
 
 returns-3 : tie.Need-returns-3
 returns-3 c =
-    let least = walked-least (c .before .before .before .before .before .before .before .before .before .before .before .before .before .before .before .before .before .before .before .pre .walkable) (c .before .before .before .before .before .before .before .before .before .before .before .before .before .before .before .before .before .before .before .args .picks .now) (c .before .before .before .before .before .before .before .before .before .before .before .before .before .before .walk .ensures .marks) _ _ (c .before .before .before .before .before .before .before .before .before .before .before .before .before .before .before .before .before .before .before .pre .states-are)
+    let least = walked-least (c .before .before .before .before .before .before .before .before .before .before .before .before .before .before .before .before .before .before .before .pre .walkable) (c .before .before .before .before .before .before .before .before .before .before .before .before .before .before .before .before .before .before .before .args .picks .now) (c .before .before .before .before .before .before .before .before .before .before .before .before .before .walk .ensures .marks) _ _ (c .before .before .before .before .before .before .before .before .before .before .before .before .before .before .before .before .before .before .before .pre .states-are)
     (c .least-cost .ensures) in
-    pick-accept (c .before .before .before .before .before .before .before .before .before .before .before .before .before .before .before .before .before .before .before .pre) (c .before .before .before .before .before .before .before .before .before .before .before .before .before .before .walk .ensures .marks) (c .before .before .before .before .before .before .before .before .before .before .stray-state .ensures) (c .before .before .before .before .before .before .before .before .before .if1 .left) (c .before .before .before .before .slack-state .ensures) least (c .before .before .before .if2 .left)
+    pick-accept (c .before .before .before .before .before .before .before .before .before .before .before .before .before .before .before .before .before .before .before .pre) (c .before .before .before .before .before .before .before .before .before .before .before .before .before .walk .ensures .marks) (c .before .before .before .before .before .before .before .before .before .before .stray-state .ensures) (c .before .before .before .before .before .before .before .before .before .if1 .left) (c .before .before .before .before .slack-state .ensures) least (c .before .before .before .if2 .left)
 
 pub pick-questions-spec : {M : Type 1} → statement M
 pick-questions-spec =
     tie.close
     (tie.spec
-    slice-aggregate-walk
     walk-requires
     stray-state-requires
     refused-requires

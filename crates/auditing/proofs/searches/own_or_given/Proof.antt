@@ -8,7 +8,7 @@ returns : tie.Need-returns
 returns c = rw (eq-eqb _ _ (c .if1 .taken))
 
 is-own-requires : tie.Need-is-own-requires
-is-own-requires c κs = c .before .pre
+is-own-requires c κs = c .before .before .pre
 
 returns-2 : tie.Need-returns-2
 returns-2 c = rw (ne-eqb _ _ (c .before .if1 .left)) (c .is-own .ensures)

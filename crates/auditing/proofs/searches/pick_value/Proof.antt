@@ -6,14 +6,14 @@ use Rattle.auditing.proofs.searches.pick_value.Statement.{statement}
 use Rattle.auditing.proofs.searches.pick_value.Tie as tie
 
 returns : tie.Need-returns
-returns c = rw (eq-eqb _ _ (c .if1 .taken)) (c .before .before .before .pre .2)
+returns c = rw (eq-eqb _ _ (c .if1 .taken)) (c .before .before .before .before .pre .2)
 
 row-value-requires : tie.Need-row-value-requires
 row-value-requires c κs =
     record {
-      ready = c .before .before .before .pre .0;
-      entries-there = c .before .before .before .pre .1;
-      row-there = ⊎-elim (λ g. absurd (c .if1 .left g)) (λ l. l) (c .before .before .before .pre .3);
+      ready = c .before .before .before .before .pre .0;
+      entries-there = c .before .before .before .before .pre .1;
+      row-there = ⊎-elim (λ g. absurd (c .if1 .left g)) (λ l. l) (c .before .before .before .before .pre .3);
     }
 
 returns-2 : tie.Need-returns-2

@@ -26,13 +26,13 @@ loop-holds : tie.Need-loop-holds Inv-loop μ-loop
 loop-holds c = (omega arith, search-starts _ _)
 
 close-requires : tie.Need-close-requires Inv-loop μ-loop
-close-requires c κs = (c .before .before .before .before .before .pre .0, omega (arith, c .before .before .before .before .before .pre .1))
+close-requires c κs = (c .before .before .before .before .before .before .pre .0, omega (arith, c .before .before .before .before .before .before .pre .1))
 
 returns : tie.Need-returns Inv-loop μ-loop
 unfolding slackState
 returns c =
     sym (c .before .before .before .loop .inv .1 ∙ search-stops _ _ _ (c .before .before .loop-test .taken) (sym (c .before .close .ensures) ∙ not-true _ (c .if1 .taken)))
-    ∙ ap (first _ 0) (c .before .before .before .before .before .before .before .pre .1)
+    ∙ ap (first _ 0) (c .before .before .before .before .before .before .before .before .pre .1)
 
 add-s : tie.Need-add-s Inv-loop μ-loop
 add-s c = omega arith
@@ -47,7 +47,7 @@ loop-again c =
 returns-2 : tie.Need-returns-2 Inv-loop μ-loop
 unfolding slackState
 returns-2 c =
-    sym (c .before .loop .inv .1 ∙ search-ends _ _ _ (c .before .loop .inv .0) (c .loop-test .left)) ∙ ap (first _ 0) (c .before .before .before .before .before .pre .1)
+    sym (c .before .loop .inv .1 ∙ search-ends _ _ _ (c .before .loop .inv .0) (c .loop-test .left)) ∙ ap (first _ 0) (c .before .before .before .before .before .before .pre .1)
 
 pub slack-state-spec : {M : Type 1} → statement M
 slack-state-spec =

@@ -13,19 +13,19 @@ mul-prev : tie.Need-mul-prev
 mul-prev c = search needs
 
 slice-read-prev : tie.Need-slice-read-prev
-slice-read-prev c = omega (arith, c .before .before .before .before .before .pre .0 .sound .picks-length, c .before .before .before .before .before .pre .1)
+slice-read-prev c = omega (arith, c .before .before .before .before .before .before .pre .0 .sound .picks-length, c .before .before .before .before .before .before .pre .1)
 
 cast-before : tie.Need-cast-before
-cast-before c = omega (arith, c .before .before .slice-known2 .given (c .before .before .before .before .before .args .s))
+cast-before c = omega (arith, c .before .before .slice-known2 .given (c .before .before .before .before .before .before .args .s))
 
 add-t20 : tie.Need-add-t20
-add-t20 c = omega (arith, c .before .before .before .before .before .pre .0 .formed .penalty-high, c .before .before .before .before .before .pre .2)
+add-t20 c = omega (arith, c .before .before .before .before .before .before .pre .0 .formed .penalty-high, c .before .before .before .before .before .before .pre .2)
 
 scan-requires : tie.Need-scan-requires
 scan-requires c κs = (
-  backable-scannable (c .before .before .before .before .before .before .before .before .pre .0),
-  c .before .before .before .before .before .before .before .before .pre .1,
-  given-room (c .before .before .before .before .before .before .before .before .pre .0) _ _ (c .before .before .before .before .before .before .before .before .pre .2) (c .before .before .before .before .before .before .before .before .pre .3),
+  backable-scannable (c .before .before .before .before .before .before .before .before .before .pre .0),
+  c .before .before .before .before .before .before .before .before .before .pre .1,
+  given-room (c .before .before .before .before .before .before .before .before .before .pre .0) _ _ (c .before .before .before .before .before .before .before .before .before .pre .2) (c .before .before .before .before .before .before .before .before .before .pre .3),
   given-going _,
 )
 
@@ -48,10 +48,10 @@ mul-picks : tie.Need-mul-picks
 mul-picks c = search needs
 
 slice-write-picks : tie.Need-slice-write-picks
-slice-write-picks c = omega (arith, c .before .before .before .before .before .before .before .before .before .before .before .before .pre .0 .sound .picks-length, c .before .before .before .before .before .before .before .before .before .before .before .before .pre .1)
+slice-write-picks c = omega (arith, c .before .before .before .before .before .before .before .before .before .before .before .before .before .pre .0 .sound .picks-length, c .before .before .before .before .before .before .before .before .before .before .before .before .before .pre .1)
 
 raise-requires : tie.Need-raise-requires
-raise-requires c κs = omega (arith, c .before .before .before .before .before .before .before .before .before .before .before .before .before .pre .0 .sound .values-length, c .before .before .before .before .before .before .before .before .before .before .before .before .before .pre .1)
+raise-requires c κs = omega (arith, c .before .before .before .before .before .before .before .before .before .before .before .before .before .before .pre .0 .sound .values-length, c .before .before .before .before .before .before .before .before .before .before .before .before .before .before .pre .1)
 
 moves-requires : tie.Need-moves-requires
 moves-requires c κs = search needs
@@ -67,10 +67,10 @@ same-length-5 c = c .before .before .before .before .before .before .before .bef
 
 returns-2 : tie.Need-returns-2
 returns-2 c =
-    let h = c .before .before .before .before .before .before .before .before .before .before .before .before .before .before .before .before .before .pre .0 in (
+    let h = c .before .before .before .before .before .before .before .before .before .before .before .before .before .before .before .before .before .before .pre .0 in (
       (λ l.
           backup-done h _ _ _ _ l
-          (given-scan h _ _ (c .before .before .before .before .before .before .before .before .before .before .before .before .before .before .before .before .before .pre .2) (c .before .before .before .before .before .before .before .before .scan .ensures .0)) (c .before .before .before .raise .ensures .0) (c .before .before .before .raise .ensures .1) (c .moves .ensures)),
+          (given-scan h _ _ (c .before .before .before .before .before .before .before .before .before .before .before .before .before .before .before .before .before .before .pre .2) (c .before .before .before .before .before .before .before .before .scan .ensures .0)) (c .before .before .before .raise .ensures .0) (c .before .before .before .raise .ensures .1) (c .moves .ensures)),
       refl,
       refl,
     )

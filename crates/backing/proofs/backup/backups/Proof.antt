@@ -28,33 +28,33 @@ abbrev μ-loop : tie.MeasureT-loop
 loop-holds : tie.Need-loop-holds Inv-loop μ-loop
 loop-holds c = (
   record {
-    backable = c .before .before .before .before .before .pre .0;
-    listed = c .before .before .before .before .before .pre .1;
+    backable = c .before .before .before .before .before .before .pre .0;
+    listed = c .before .before .before .before .before .before .pre .1;
     left = refl;
-    room = c .before .before .before .before .before .pre .3;
+    room = c .before .before .before .before .before .before .pre .3;
     within = omega arith;
-    fine = c .before .before .before .before .before .pre .4;
+    fine = c .before .before .before .before .before .before .pre .4;
   },
   refl,
   refl,
   refl,
-  c .before .before .before .before .before .pre .5,
+  c .before .before .before .before .before .before .pre .5,
 )
 
 mul-s : tie.Need-mul-s Inv-loop μ-loop
 mul-s c = search needs
 
 shared-slice-read-s : tie.Need-shared-slice-read-s Inv-loop μ-loop
-shared-slice-read-s c = omega (arith, c .before .loop-test .taken, c .before .before .before .before .before .before .before .before .pre .1 .long)
+shared-slice-read-s c = omega (arith, c .before .loop-test .taken, c .before .before .before .before .before .before .before .before .before .pre .1 .long)
 
 cast-s : tie.Need-cast-s Inv-loop μ-loop
-cast-s c = omega (arith, c .shared-slice-known3 .given (c .before .before .loop .i))
+cast-s c = omega (arith, c .shared-slice-known4 .given (c .before .before .loop .i))
 
 backup-requires : tie.Need-backup-requires Inv-loop μ-loop
 backup-requires c κs = (
   c .before .before .before .before .before .before .loop .inv .0 .backable,
   next-open (c .before .before .before .before .before .before .loop .inv .0) (c .before .before .before .before .before .loop-test .taken) .state,
-  c .before .before .before .before .before .before .before .before .before .before .before .before .pre .2,
+  c .before .before .before .before .before .before .before .before .before .before .before .before .before .pre .2,
   next-room (c .before .before .before .before .before .before .loop .inv .0) (c .before .before .before .before .before .loop-test .taken),
 )
 

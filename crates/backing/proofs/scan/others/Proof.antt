@@ -22,12 +22,12 @@ abbrev μ-loop : tie.MeasureT-loop
 loop-holds : tie.Need-loop-holds Inv-loop μ-loop
 loop-holds c = (
   record {
-    scannable = c .before .before .before .pre .0;
-    within = c .before .before .before .pre .1;
-    rows = c .before .before .before .pre .2;
+    scannable = c .before .before .before .before .pre .0;
+    within = c .before .before .before .before .pre .1;
+    rows = c .before .before .before .before .pre .2;
     left = refl;
-    room = c .before .before .before .pre .3;
-    going = c .before .before .before .pre .4;
+    room = c .before .before .before .before .pre .3;
+    going = c .before .before .before .before .pre .4;
   },
   refl,
 )

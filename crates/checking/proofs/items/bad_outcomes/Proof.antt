@@ -33,11 +33,11 @@ add-from c = omega arith
 mul-from-2 : tie.Need-mul-from-2 Inv-loop μ-loop
 mul-from-2 c = omega arith
 
-element-copy-out-from : tie.Need-element-copy-out-from Inv-loop μ-loop
-element-copy-out-from c = omega arith
+shared-slice-read-from : tie.Need-shared-slice-read-from Inv-loop μ-loop
+shared-slice-read-from c = omega arith
 
 cast-from : tie.Need-cast-from Inv-loop μ-loop
-cast-from c = let p = c .before .before .before .before .pre .1 (c .before .before .loop .row) (c .before .loop-test .taken) in omega arith
+cast-from c = let p = c .before .before .before .before .before .pre .1 (c .before .before .loop .row) (c .before .loop-test .taken) in omega arith
 
 mul-to : tie.Need-mul-to Inv-loop μ-loop
 mul-to c = omega arith
@@ -51,23 +51,23 @@ add-to-2 c = omega arith
 mul-to-2 : tie.Need-mul-to-2 Inv-loop μ-loop
 mul-to-2 c = omega arith
 
-element-copy-out-to : tie.Need-element-copy-out-to Inv-loop μ-loop
-element-copy-out-to c = omega arith
+shared-slice-read-to : tie.Need-shared-slice-read-to Inv-loop μ-loop
+shared-slice-read-to c = omega arith
 
 cast-to : tie.Need-cast-to Inv-loop μ-loop
-cast-to c = let p = c .before .before .before .before .before .pre .1 (c .before .before .before .loop .row) (c .before .before .loop-test .taken) in omega arith
+cast-to c = let p = c .before .before .before .before .before .before .pre .1 (c .before .before .before .loop .row) (c .before .before .loop-test .taken) in omega arith
 
 sub-outcomes-obey : tie.Need-sub-outcomes-obey Inv-loop μ-loop
-sub-outcomes-obey c = c .before .before .before .before .before .pre .1 (c .before .before .before .loop .row) (c .before .before .loop-test .taken) .ordered
+sub-outcomes-obey c = c .before .before .before .before .before .before .pre .1 (c .before .before .before .loop .row) (c .before .before .loop-test .taken) .ordered
 
 part-outcomes-obey-start : tie.Need-part-outcomes-obey-start Inv-loop μ-loop
-part-outcomes-obey-start c = c .before .before .before .before .before .pre .1 (c .before .before .before .loop .row) (c .before .before .loop-test .taken) .ordered
+part-outcomes-obey-start c = c .before .before .before .before .before .before .pre .1 (c .before .before .before .loop .row) (c .before .before .loop-test .taken) .ordered
 
 part-outcomes-obey-end : tie.Need-part-outcomes-obey-end Inv-loop μ-loop
-part-outcomes-obey-end c = c .before .before .before .before .before .pre .1 (c .before .before .before .loop .row) (c .before .before .loop-test .taken) .inside
+part-outcomes-obey-end c = c .before .before .before .before .before .before .pre .1 (c .before .before .before .loop .row) (c .before .before .loop-test .taken) .inside
 
 outcomes-obey-requires : tie.Need-outcomes-obey-requires Inv-loop μ-loop
-outcomes-obey-requires c κs = let p = c .before .before .before .before .before .before .pre .1 (c .before .before .before .before .loop .row) (c .before .before .before .loop-test .taken) in simp length-take (omega arith)
+outcomes-obey-requires c κs = let p = c .before .before .before .before .before .before .before .pre .1 (c .before .before .before .before .loop .row) (c .before .before .before .loop-test .taken) in simp length-take (omega arith)
 
 returns : tie.Need-returns Inv-loop μ-loop
 returns c =
@@ -96,13 +96,13 @@ bad-outcomes-spec =
     mul-from
     add-from
     mul-from-2
-    element-copy-out-from
+    shared-slice-read-from
     cast-from
     mul-to
     add-to
     add-to-2
     mul-to-2
-    element-copy-out-to
+    shared-slice-read-to
     cast-to
     sub-outcomes-obey
     part-outcomes-obey-start

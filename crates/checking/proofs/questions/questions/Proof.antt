@@ -4,6 +4,7 @@ use mathlib.Core.Path.{_∙_, sym, ap}
 use Rattle.model.specs.Answers.{verdictOf}
 use Rattle.checking.proofs.Asking.{no-pass, file-stops, file-items}
 use borrow.Author.Needs.{needs}
+use native.Mathlib.Omega.{arith}
 use Rattle.checking.proofs.questions.questions.Statement.{statement}
 use Rattle.checking.proofs.questions.questions.Tie as tie
 
@@ -27,12 +28,15 @@ layout-of-requires c κs = sym (c .before .before .sections .ensures) ∙ ap ver
 item-questions-requires : tie.Need-item-questions-requires
 item-questions-requires c κs =
     let e = sym (c .before .before .before .before .sections .ensures) ∙ ap verdictOf (c .before .before .enum-told .given .1) in
-    (record { whole = e; laid = c .before .layout-of .ensures }, c .before .before .before .before .before .before .pre)
+    (record { whole = e; laid = c .before .layout-of .ensures }, omega (arith, c .before .before .before .before .before .before .before .pre e, c .before .layout-of .ensures .rows-are))
+
+same-length : tie.Need-same-length
+same-length c = search needs
 
 returns-2 : tie.Need-returns-2
 returns-2 c =
-    let e = sym (c .before .before .before .before .before .sections .ensures) ∙ ap verdictOf (c .before .before .before .enum-told .given .1) in
-    file-items (sym e) (c .item-questions .ensures)
+    let e = sym (c .before .before .before .before .before .before .before .sections .ensures) ∙ ap verdictOf (c .before .before .before .before .before .enum-told .given .1) in
+    file-items (sym e) (c .before .before .item-questions .ensures)
 
 pub questions-spec : {M : Type 1} → statement M
 questions-spec =
@@ -44,4 +48,5 @@ questions-spec =
     returns
     layout-of-requires
     item-questions-requires
+    same-length
     returns-2)

@@ -1,173 +1,47 @@
--- `rows_of` answers a state's rows as a part of the file: the index gives its ends.
+-- `rows_of` looks up with an index of its own, small or large.
 -- Made by `places make` from answers/questions/rows_of.ans: edit that file, and not this one.
-use Prim.Native.Nat.{ℕ}
-use mathlib.Core.Path.{_∙_, sym, ap}
-use lib.ListN.{length-replicate}
-use Rattle.reading.specs.Tests.{indexSize}
-use Rattle.model.specs.Answers.{verdictOf}
-use Rattle.checking.proofs.Asking.{whole-file}
-use Rattle.checking.proofs.Looking.{refused-rows, no-state-rows, stretch-ends, stretch-is}
+use mathlib.Core.Path.{_∙_, sym}
 use borrow.Author.Needs.{needs}
-use native.Mathlib.Omega.{arith}
 use Rattle.checking.proofs.questions.rows_of.Statement.{statement}
 use Rattle.checking.proofs.questions.rows_of.Tie as tie
 
-questions-requires : tie.Need-questions-requires
-questions-requires c κs = length-replicate {A = ℕ} indexSize 0
+has-few-rows-requires : tie.Need-has-few-rows-requires
+has-few-rows-requires c κs = search needs
 
-enum-told : tie.Need-enum-told
-enum-told c = search needs
+small-index-requires : tie.Need-small-index-requires
+small-index-requires c κs = search needs
 
-enum-told-2 : tie.Need-enum-told-2
-enum-told-2 c = search needs
+slice-aggregate-rows-by : tie.Need-slice-aggregate-rows-by
+slice-aggregate-rows-by c = search needs
 
-sub-result : tie.Need-sub-result
-sub-result c = search needs
-
-part-result-start : tie.Need-part-result-start
-part-result-start c = search needs
-
-part-result-end : tie.Need-part-result-end
-part-result-end c = search needs
+rows-by-requires : tie.Need-rows-by-requires
+rows-by-requires c κs = c .before .small-index .ensures _ (sym (c .before .before .before .has-few-rows .ensures) ∙ (c .before .before .if1 .taken))
 
 returns : tie.Need-returns
-returns c = refused-rows _ _ _ _ (sym (c .before .before .before .questions .ensures .verdict) ∙ ap verdictOf (c .before .enum-told2 .given .1))
+returns c = c .before .rows-by .ensures
 
-layout-of-requires : tie.Need-layout-of-requires
-layout-of-requires c κs = whole-file _ (sym (c .before .before .questions .ensures .verdict) ∙ ap verdictOf (c .enum-told .given .1))
+large-index-requires : tie.Need-large-index-requires
+large-index-requires c κs = search needs
 
-sub-result-2 : tie.Need-sub-result-2
-sub-result-2 c = search needs
+slice-aggregate-rows-by-2 : tie.Need-slice-aggregate-rows-by-2
+slice-aggregate-rows-by-2 c = search needs
 
-part-result-start-2 : tie.Need-part-result-start-2
-part-result-start-2 c = search needs
-
-part-result-end-2 : tie.Need-part-result-end-2
-part-result-end-2 c = search needs
+rows-by-requires-2 : tie.Need-rows-by-requires-2
+rows-by-requires-2 c κs = c .before .large-index .ensures _
 
 returns-2 : tie.Need-returns-2
-returns-2 c =
-    let e = sym (c .before .before .before .before .before .before .questions .ensures .verdict) ∙ ap verdictOf (c .before .before .before .before .enum-told .given .1) in
-    no-state-rows _ _ e (rw (← (c .before .before .before .layout-of .ensures .states-are)) (c .before .if1 .taken))
-
-mul-from : tie.Need-mul-from
-mul-from c =
-    let y = c .before .before .before .before .before .questions .ensures .ready (ap verdictOf (c .before .before .before .enum-told .given .1)) in
-    let t = stretch-ends (c .before .before .layout-of .ensures) y (c .if1 .left) in
-    omega (arith, t)
-
-array-read-from : tie.Need-array-read-from
-array-read-from c =
-    let y = c .before .before .before .before .before .questions .ensures .ready (ap verdictOf (c .before .before .before .enum-told .given .1)) in
-    let t = stretch-ends (c .before .before .layout-of .ensures) y (c .if1 .left) in
-    omega (arith, t)
-
-cast-from : tie.Need-cast-from
-cast-from c =
-    let y = c .before .before .before .before .before .questions .ensures .ready (ap verdictOf (c .before .before .before .enum-told .given .1)) in
-    let t = stretch-ends (c .before .before .layout-of .ensures) y (c .if1 .left) in
-    omega (arith, t)
-
-mul-from-2 : tie.Need-mul-from-2
-mul-from-2 c =
-    let y = c .before .before .before .before .before .questions .ensures .ready (ap verdictOf (c .before .before .before .enum-told .given .1)) in
-    let t = stretch-ends (c .before .before .layout-of .ensures) y (c .if1 .left) in
-    omega (arith, t)
-
-add-from : tie.Need-add-from
-add-from c =
-    let y = c .before .before .before .before .before .before .questions .ensures .ready (ap verdictOf (c .before .before .before .before .enum-told .given .1)) in
-    let t = stretch-ends (c .before .before .before .layout-of .ensures) y (c .before .if1 .left) in
-    omega (arith, t)
-
-add-to : tie.Need-add-to
-add-to c =
-    let y = c .before .before .before .before .before .before .questions .ensures .ready (ap verdictOf (c .before .before .before .before .enum-told .given .1)) in
-    let t = stretch-ends (c .before .before .before .layout-of .ensures) y (c .before .if1 .left) in
-    omega (arith, t)
-
-mul-to : tie.Need-mul-to
-mul-to c =
-    let y = c .before .before .before .before .before .before .questions .ensures .ready (ap verdictOf (c .before .before .before .before .enum-told .given .1)) in
-    let t = stretch-ends (c .before .before .before .layout-of .ensures) y (c .before .if1 .left) in
-    omega (arith, t)
-
-array-read-to : tie.Need-array-read-to
-array-read-to c =
-    let y = c .before .before .before .before .before .before .questions .ensures .ready (ap verdictOf (c .before .before .before .before .enum-told .given .1)) in
-    let t = stretch-ends (c .before .before .before .layout-of .ensures) y (c .before .if1 .left) in
-    omega (arith, t)
-
-cast-to : tie.Need-cast-to
-cast-to c =
-    let y = c .before .before .before .before .before .before .questions .ensures .ready (ap verdictOf (c .before .before .before .before .enum-told .given .1)) in
-    let t = stretch-ends (c .before .before .before .layout-of .ensures) y (c .before .if1 .left) in
-    omega (arith, t)
-
-mul-to-2 : tie.Need-mul-to-2
-mul-to-2 c =
-    let y = c .before .before .before .before .before .before .questions .ensures .ready (ap verdictOf (c .before .before .before .before .enum-told .given .1)) in
-    let t = stretch-ends (c .before .before .before .layout-of .ensures) y (c .before .if1 .left) in
-    omega (arith, t)
-
-add-to-2 : tie.Need-add-to-2
-add-to-2 c =
-    let y = c .before .before .before .before .before .before .before .questions .ensures .ready (ap verdictOf (c .before .before .before .before .before .enum-told .given .1)) in
-    let t = stretch-ends (c .before .before .before .before .layout-of .ensures) y (c .before .before .if1 .left) in
-    omega (arith, t)
-
-sub-result-3 : tie.Need-sub-result-3
-sub-result-3 c =
-    let y = c .before .before .before .before .before .before .before .questions .ensures .ready (ap verdictOf (c .before .before .before .before .before .enum-told .given .1)) in
-    let t = stretch-ends (c .before .before .before .before .layout-of .ensures) y (c .before .before .if1 .left) in
-    omega (arith, t)
-
-part-result-start-3 : tie.Need-part-result-start-3
-part-result-start-3 c =
-    let y = c .before .before .before .before .before .before .before .questions .ensures .ready (ap verdictOf (c .before .before .before .before .before .enum-told .given .1)) in
-    let t = stretch-ends (c .before .before .before .before .layout-of .ensures) y (c .before .before .if1 .left) in
-    omega (arith, t)
-
-part-result-end-3 : tie.Need-part-result-end-3
-part-result-end-3 c =
-    let y = c .before .before .before .before .before .before .before .questions .ensures .ready (ap verdictOf (c .before .before .before .before .before .enum-told .given .1)) in
-    let t = stretch-ends (c .before .before .before .before .layout-of .ensures) y (c .before .before .if1 .left) in
-    omega (arith, t)
-
-returns-3 : tie.Need-returns-3
-returns-3 c =
-    let y = c .before .before .before .before .before .before .before .before .questions .ensures .ready (ap verdictOf (c .before .before .before .before .before .before .enum-told .given .1)) in
-    stretch-is (c .before .before .before .before .before .layout-of .ensures) y (c .before .before .before .if1 .left)
-    (sym (c .before .before .before .before .before .before .before .before .questions .ensures .verdict) ∙ ap verdictOf (c .before .before .before .before .before .before .enum-told .given .1))
+returns-2 c = c .before .rows-by2 .ensures
 
 pub rows-of-spec : {M : Type 1} → statement M
 rows-of-spec =
     tie.close
     (tie.spec
-    questions-requires
-    enum-told
-    enum-told-2
-    sub-result
-    part-result-start
-    part-result-end
+    has-few-rows-requires
+    small-index-requires
+    slice-aggregate-rows-by
+    rows-by-requires
     returns
-    layout-of-requires
-    sub-result-2
-    part-result-start-2
-    part-result-end-2
-    returns-2
-    mul-from
-    array-read-from
-    cast-from
-    mul-from-2
-    add-from
-    add-to
-    mul-to
-    array-read-to
-    cast-to
-    mul-to-2
-    add-to-2
-    sub-result-3
-    part-result-start-3
-    part-result-end-3
-    returns-3)
+    large-index-requires
+    slice-aggregate-rows-by-2
+    rows-by-requires-2
+    returns-2)

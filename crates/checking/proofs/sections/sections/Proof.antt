@@ -2,7 +2,7 @@
 -- Made by `places make` from answers/sections/sections.ans: edit that file, and not this one.
 use borrow.Author.Tests.{eq-eqb, ne-eqb}
 use mathlib.Core.Path.{refl, _∙_, sym}
-use Rattle.model.specs.Questions.{layoutQuestions, endQuestion}
+use Rattle.model.specs.Questions.{layoutQuestionsWithin, endQuestion}
 use Rattle.reading.specs.Begins.{statesAt-is, rowsAt-is, outcomesAt-is, fileEnd-is}
 use Rattle.checking.proofs.SectionAnswers.{section-passes, section-fails, section-holds}
 use borrow.Author.Needs.{needs}
@@ -14,7 +14,7 @@ section-requires : tie.Need-section-requires
 section-requires c κs = search needs
 
 returns : tie.Need-returns
-unfolding layoutQuestions
+unfolding layoutQuestionsWithin
 returns c = rw (section-fails (c .before .section .ensures) refl 0 (c .if1 .taken))
 
 section-end-requires : tie.Need-section-end-requires
@@ -27,7 +27,7 @@ section-requires-2 : tie.Need-section-requires-2
 section-requires-2 c κs = let t = section-holds (c .before .before .section .ensures) (c .before .if1 .left) in omega arith
 
 returns-2 : tie.Need-returns-2
-unfolding layoutQuestions
+unfolding layoutQuestionsWithin
 returns-2 c =
     let p0 = section-passes (c .before .before .before .before .section .ensures) refl 0 (c .before .before .before .if1 .left) in
     let i1 = statesAt-is _ _ (c .before .before .section-end .ensures) in
@@ -43,7 +43,7 @@ section-requires-3 : tie.Need-section-requires-3
 section-requires-3 c κs = let t = section-holds (c .before .before .section2 .ensures) (c .before .if2 .left) in omega arith
 
 returns-3 : tie.Need-returns-3
-unfolding layoutQuestions
+unfolding layoutQuestionsWithin
 returns-3 c =
     let p0 = section-passes (c .before .before .before .before .before .before .before .section .ensures) refl 0 (c .before .before .before .before .before .before .if1 .left) in
     let i1 = statesAt-is _ _ (c .before .before .before .before .before .section-end .ensures) in
@@ -61,7 +61,7 @@ section-requires-4 : tie.Need-section-requires-4
 section-requires-4 c κs = let t = section-holds (c .before .before .section3 .ensures) (c .before .if3 .left) in omega arith
 
 returns-4 : tie.Need-returns-4
-unfolding layoutQuestions
+unfolding layoutQuestionsWithin
 returns-4 c =
     let p0 = section-passes (c .before .before .before .before .before .before .before .before .before .before .section .ensures) refl 0 (c .before .before .before .before .before .before .before .before .before .if1 .left) in
     let i1 = statesAt-is _ _ (c .before .before .before .before .before .before .before .before .section-end .ensures) in
@@ -75,7 +75,7 @@ section-end-requires-4 : tie.Need-section-end-requires-4
 section-end-requires-4 c κs = let t = section-holds (c .before .section4 .ensures) (c .if4 .left) in omega arith
 
 returns-5 : tie.Need-returns-5
-unfolding layoutQuestions endQuestion
+unfolding layoutQuestionsWithin endQuestion
 returns-5 c =
     let p0 = section-passes (c .before .before .before .before .before .before .before .before .before .before .before .before .section .ensures) refl 0 (c .before .before .before .before .before .before .before .before .before .before .before .if1 .left) in
     let i1 = statesAt-is _ _ (c .before .before .before .before .before .before .before .before .before .before .section-end .ensures) in
@@ -87,7 +87,7 @@ returns-5 c =
     rw (p0, p1, p2, p3, eq-eqb _ _ (sym (fileEnd-is _ _ _ (c .before .section-end4 .ensures) i3) ∙ (c .if5 .taken)))
 
 returns-6 : tie.Need-returns-6
-unfolding layoutQuestions endQuestion
+unfolding layoutQuestionsWithin endQuestion
 returns-6 c =
     let p0 = section-passes (c .before .before .before .before .before .before .before .before .before .before .before .before .section .ensures) refl 0 (c .before .before .before .before .before .before .before .before .before .before .before .if1 .left) in
     let i1 = statesAt-is _ _ (c .before .before .before .before .before .before .before .before .before .before .section-end .ensures) in

@@ -21,7 +21,7 @@ cast-put16 : tie.Need-cast-put16 Inv-loop μ-loop
 cast-put16 c = omega arith
 
 put16-requires : tie.Need-put16-requires Inv-loop μ-loop
-put16-requires c κs = omega (arith, c .before .before .pre .1)
+put16-requires c κs = omega (arith, c .before .before .before .pre .2)
 
 loop-holds : tie.Need-loop-holds Inv-loop μ-loop
 unfolding partsTo
@@ -29,9 +29,10 @@ loop-holds c = grown-starts refl (c .before .before .put16 .ensures .within)
 
 put-row-requires : tie.Need-put-row-requires Inv-loop μ-loop
 put-row-requires c κs = (
-  omega (arith, c .before .before .before .before .before .before .before .before .pre .0),
-  grown-room (c .before .before .loop .inv) 4 (rows-size (c .before .before .before .before .before .before .before .before .args .index .now) (c .before .before .before .before .before .before .before .before .args .counts .now) (c .before .before .loop .r)) (c .before .loop-test .taken)
-      (omega (arith, c .before .before .before .before .before .before .before .before .pre .1, number-ends (c .before .before .before .before .before .before .before .before .args .at) 2 _ (c .before .before .before .before .before .put16 .ensures))),
+  omega (arith, c .before .before .before .before .before .before .before .before .before .pre .0),
+  omega (arith, c .before .before .before .before .before .before .before .before .before .pre .1),
+  grown-room (c .before .before .loop .inv) 4 (rows-size (c .before .before .before .before .before .before .before .before .before .args .index .now) (c .before .before .before .before .before .before .before .before .before .args .counts .now) (c .before .before .loop .r)) (c .before .loop-test .taken)
+      (omega (arith, c .before .before .before .before .before .before .before .before .before .pre .2, number-ends (c .before .before .before .before .before .before .before .before .before .args .at) 2 _ (c .before .before .before .before .before .put16 .ensures))),
 )
 
 add-r : tie.Need-add-r Inv-loop μ-loop
@@ -47,7 +48,7 @@ same-length : tie.Need-same-length Inv-loop μ-loop
 same-length c = c .before .loop .inv .put .long ∙ (c .before .before .before .before .put16 .ensures .long)
 
 returns : tie.Need-returns Inv-loop μ-loop
-returns c = after (c .before .before .before .before .before .before .before .args .at) _ _ (c .before .before .before .before .put16 .ensures) (grown-ends (c .before .loop .inv) (c .loop-test .left))
+returns c = after (c .before .before .before .before .before .before .before .before .args .at) _ _ (c .before .before .before .before .put16 .ensures) (grown-ends (c .before .loop .inv) (c .loop-test .left))
 
 pub put-rows-spec : {M : Type 1} → statement M
 put-rows-spec =

@@ -3,7 +3,7 @@
 use mathlib.Core.Path.{_∙_, sym, ap}
 use native.Mathlib.Nat.{le-trans, le-of-eq}
 use Rattle.model.specs.Answers.{verdictOf}
-use Rattle.model.specs.Questions.{fileQuestions, layoutQuestions}
+use Rattle.model.specs.Questions.{fileQuestions, fileQuestionsWithin, layoutQuestions}
 use Rattle.model.specs.Sections.{problemOf}
 use Rattle.guarantee.specs.Carries.{verdict-known}
 use Rattle.guarantee.specs.Searches.{then-first}
@@ -21,7 +21,7 @@ enum-told : tie.Need-enum-told
 enum-told c = search needs
 
 layout-of-requires : tie.Need-layout-of-requires
-unfolding fileQuestions
+unfolding fileQuestionsWithin
 layout-of-requires c κs =
     let f = c .before .before .before .before .args .file .now in
     then-first (layoutQuestions f) _

@@ -6,21 +6,21 @@ use Rattle.programs.proofs.remainders.pick_remainder.Statement.{stateme
 use Rattle.programs.proofs.remainders.pick_remainder.Tie as tie
 
 returns : tie.Need-returns
-returns c = none-left _ _ _ (omega (arith, c .if1 .taken, c .before .before .before .pre .rows-are))
+returns c = none-left _ _ _ (omega (arith, c .if1 .taken, c .before .before .before .before .pre .rows-are))
 
 row-value-requires : tie.Need-row-value-requires
 row-value-requires c κs =
     record {
-      ready = c .before .before .before .pre .ready;
-      entries-there = c .before .before .before .pre .values-long;
-      row-there = omega (arith, c .if1 .left, c .before .before .before .pre .rows-are);
+      ready = c .before .before .before .before .pre .ready;
+      entries-there = c .before .before .before .before .pre .values-long;
+      row-there = omega (arith, c .if1 .left, c .before .before .before .before .pre .rows-are);
     }
 
 cast-result : tie.Need-cast-result
-cast-result c = omega (arith, remainder-fits _ (c .before .before .before .before .before .pre .ready .total-known) _ _ (c .before .row-value .ensures .1))
+cast-result c = omega (arith, remainder-fits _ (c .before .before .before .before .before .before .pre .ready .total-known) _ _ (c .before .row-value .ensures .1))
 
 returns-2 : tie.Need-returns-2
-returns-2 c = row-left _ _ _ (omega (arith, c .before .before .if1 .left, c .before .before .before .before .before .pre .rows-are)) (c .before .row-value .ensures .1)
+returns-2 c = row-left _ _ _ (omega (arith, c .before .before .if1 .left, c .before .before .before .before .before .before .pre .rows-are)) (c .before .row-value .ensures .1)
 
 pub pick-remainder-spec : {M : Type 1} → statement M
 pick-remainder-spec = tie.close (tie.spec returns row-value-requires cast-result returns-2)

@@ -17,25 +17,25 @@ loop-holds : tie.Need-loop-holds Inv-loop μ-loop
 loop-holds c = fill-starts
 
 mul-pick-remainder : tie.Need-mul-pick-remainder Inv-loop μ-loop
-mul-pick-remainder c = omega (arith, c .loop-test .taken, c .before .before .before .before .before .pre .1, c .before .before .before .before .before .pre .2)
+mul-pick-remainder c = omega (arith, c .loop-test .taken, c .before .before .before .before .before .before .pre .1, c .before .before .before .before .before .before .pre .2)
 
 shared-slice-read-pick-remainder : tie.Need-shared-slice-read-pick-remainder Inv-loop μ-loop
-shared-slice-read-pick-remainder c = omega (arith, c .before .loop-test .taken, c .before .before .before .before .before .before .pre .1, c .before .before .before .before .before .before .pre .2)
+shared-slice-read-pick-remainder c = omega (arith, c .before .loop-test .taken, c .before .before .before .before .before .before .before .pre .1, c .before .before .before .before .before .before .before .pre .2)
 
 pick-remainder-requires : tie.Need-pick-remainder-requires Inv-loop μ-loop
-pick-remainder-requires c κs = c .before .before .before .before .before .before .pre .0
+pick-remainder-requires c κs = c .before .before .before .before .before .before .before .pre .0
 
 mul-remainders : tie.Need-mul-remainders Inv-loop μ-loop
-mul-remainders c = omega (arith, c .before .before .loop-test .taken, c .before .before .before .before .before .before .before .pre .1, c .before .before .before .before .before .before .before .pre .2)
+mul-remainders c = omega (arith, c .before .before .loop-test .taken, c .before .before .before .before .before .before .before .before .pre .1, c .before .before .before .before .before .before .before .before .pre .2)
 
 element-write-remainders : tie.Need-element-write-remainders Inv-loop μ-loop
-element-write-remainders c = omega (arith, c .before .before .loop-test .taken, c .before .before .before .before .before .before .before .pre .1, c .before .before .before .before .before .before .before .pre .2)
+element-write-remainders c = omega (arith, c .before .before .loop-test .taken, c .before .before .before .before .before .before .before .before .pre .1, c .before .before .before .before .before .before .before .before .pre .2)
 
 add-s : tie.Need-add-s Inv-loop μ-loop
-add-s c = omega (arith, c .before .before .loop-test .taken, c .before .before .before .before .before .before .before .pre .1, c .before .before .before .before .before .before .before .pre .2)
+add-s c = omega (arith, c .before .before .loop-test .taken, c .before .before .before .before .before .before .before .before .pre .1, c .before .before .before .before .before .before .before .before .pre .2)
 
 loop-less : tie.Need-loop-less Inv-loop μ-loop
-loop-less c = omega (arith, c .before .before .loop-test .taken, c .before .before .before .before .before .before .before .pre .1, c .before .before .before .before .before .before .before .pre .2)
+loop-less c = omega (arith, c .before .before .loop-test .taken, c .before .before .before .before .before .before .before .before .pre .1, c .before .before .before .before .before .before .before .before .pre .2)
 
 loop-again : tie.Need-loop-again Inv-loop μ-loop
 loop-again c = fill-goes-on (c .before .before .before .loop .inv) (c .pick-remainder .ensures) (c .before .before .loop-test .taken)

@@ -1,6 +1,7 @@
 -- `index_rows` fills in the rows. So far the total is the sum and the entries are made; a row's number of outcomes is a byte.
 -- Made by `places make` from answers/index/index_rows.ans: edit that file, and not this one.
 use Prim.Native.Nat.{_≤_, _-_, _*_, _+_}
+use lib.ListN.{length, length-set}
 use mathlib.Core.Path.{_≡_, refl}
 use Rattle.model.specs.Search.{sumTo}
 use Rattle.guarantee.specs.Searches.{sum-next}
@@ -18,6 +19,7 @@ Inv-loop file at n at3 index₀ sheet total₀ r₀ index total r =
     × (total ≤ maxByte * r)
     × (total ≡ sumTo (outcomeCountAt file at) r)
     × (index ≡ rowEntries (λ k. at3 + 4 * sumTo (outcomeCountAt file at) k) (ticksAt file at) index₀ r)
+    × (length index ≡ length index₀)
 
 abbrev μ-loop : tie.MeasureT-loop
 μ-loop file at n at3 index₀ sheet total₀ r₀ index total r = n - r
@@ -27,7 +29,7 @@ rate-sheet-requires c κs = omega arith
 
 loop-holds : tie.Need-loop-holds Inv-loop μ-loop
 unfolding sumTo rowEntries
-loop-holds c = (omega arith, omega arith, refl, refl)
+loop-holds c = (omega arith, omega arith, refl, refl, refl)
 
 cast-index : tie.Need-cast-index Inv-loop μ-loop
 cast-index c = omega arith
@@ -47,8 +49,8 @@ add-index-2 c = omega arith
 mul-index-3 : tie.Need-mul-index-3 Inv-loop μ-loop
 mul-index-3 c = omega arith
 
-element-write-index : tie.Need-element-write-index Inv-loop μ-loop
-element-write-index c = omega arith
+slice-write-index : tie.Need-slice-write-index Inv-loop μ-loop
+slice-write-index c = omega arith
 
 mul-byte-at : tie.Need-mul-byte-at Inv-loop μ-loop
 mul-byte-at c = omega arith
@@ -74,7 +76,7 @@ u16-at-requires c κs = omega arith
 ticks-requires : tie.Need-ticks-requires Inv-loop μ-loop
 ticks-requires c κs = (
   c .before .before .before .before .before .rate-sheet .ensures .0,
-  rw (c .before .byte-at .ensures .0, c .u16-at .ensures .0) (row-cost _ _ _ (c .before .before .before .before .before .before .before .pre .3 (c .before .before .before .before .loop .r) (c .before .before .before .loop-test .taken))),
+  rw (c .before .byte-at .ensures .0, c .u16-at .ensures .0) (row-cost _ _ _ (c .before .before .before .before .before .before .before .before .pre .4 (c .before .before .before .before .loop .r) (c .before .before .before .loop-test .taken))),
 )
 
 mul-index-4 : tie.Need-mul-index-4 Inv-loop μ-loop
@@ -89,8 +91,8 @@ add-index-4 c = omega arith
 mul-index-5 : tie.Need-mul-index-5 Inv-loop μ-loop
 mul-index-5 c = omega arith
 
-element-write-index-2 : tie.Need-element-write-index-2 Inv-loop μ-loop
-element-write-index-2 c = omega arith
+slice-write-index-2 : tie.Need-slice-write-index-2 Inv-loop μ-loop
+slice-write-index-2 c = simp length-set (omega arith)
 
 mul-byte-at-2 : tie.Need-mul-byte-at-2 Inv-loop μ-loop
 mul-byte-at-2 c = omega arith
@@ -115,11 +117,12 @@ loop-less c = omega arith
 
 loop-again : tie.Need-loop-again Inv-loop μ-loop
 loop-again c =
-    let n = sum-next (outcomeCountAt (c .before .before .before .before .before .before .before .before .before .args .file .now) (c .before .before .before .before .before .before .before .before .before .args .at)) (c .before .before .before .before .before .before .loop .r) in (
+    let n = sum-next (outcomeCountAt (c .before .before .before .before .before .before .before .before .before .before .args .file .now) (c .before .before .before .before .before .before .before .before .before .before .args .at)) (c .before .before .before .before .before .before .loop .r) in (
       omega arith,
       omega arith,
       omega arith,
       rw (c .before .before .before .before .before .before .loop .inv .3, c .before .before .before .before .before .before .loop .inv .2, c .before .ticks .ensures, c .before .before .before .byte-at .ensures .0, c .before .before .u16-at .ensures .0, entries-next),
+      simp length-set (c .before .before .before .before .before .before .loop .inv .4),
     )
 
 cast-index-2 : tie.Need-cast-index-2 Inv-loop μ-loop
@@ -140,12 +143,15 @@ add-index-6 c = omega arith
 mul-index-8 : tie.Need-mul-index-8 Inv-loop μ-loop
 mul-index-8 c = omega arith
 
-element-write-index-3 : tie.Need-element-write-index-3 Inv-loop μ-loop
-element-write-index-3 c = omega arith
+slice-write-index-3 : tie.Need-slice-write-index-3 Inv-loop μ-loop
+slice-write-index-3 c = omega arith
+
+same-length : tie.Need-same-length Inv-loop μ-loop
+same-length c = simp length-set (c .before .loop .inv .4)
 
 returns : tie.Need-returns Inv-loop μ-loop
 returns c =
-    let e : (c .before .before .before .before .args .n) ≡ (c .before .loop .r) = omega arith in
+    let e : (c .before .before .before .before .before .args .n) ≡ (c .before .loop .r) = omega arith in
     record { sum = rw e (c .before .loop .inv .2); entries = rw (e, c .before .loop .inv .3, c .before .loop .inv .2) }
 
 pub index-rows-spec : {M : Type 1} → statement M
@@ -160,7 +166,7 @@ index-rows-spec =
     mul-index-2
     add-index-2
     mul-index-3
-    element-write-index
+    slice-write-index
     mul-byte-at
     add-byte-at
     byte-at-requires
@@ -173,7 +179,7 @@ index-rows-spec =
     add-index-3
     add-index-4
     mul-index-5
-    element-write-index-2
+    slice-write-index-2
     mul-byte-at-2
     add-byte-at-2
     add-byte-at-3
@@ -188,5 +194,6 @@ index-rows-spec =
     mul-index-7
     add-index-6
     mul-index-8
-    element-write-index-3
+    slice-write-index-3
+    same-length
     returns)

@@ -9,8 +9,8 @@ use Rattle.reading.proofs.index.is_own.Tie as tie
 mul-if1 : tie.Need-mul-if1
 mul-if1 c = search needs
 
-element-copy-out-if1 : tie.Need-element-copy-out-if1
-element-copy-out-if1 c = search needs
+shared-slice-read-if1 : tie.Need-shared-slice-read-if1
+shared-slice-read-if1 c = search needs
 
 add-result : tie.Need-add-result
 add-result c = search needs
@@ -18,8 +18,8 @@ add-result c = search needs
 mul-result : tie.Need-mul-result
 mul-result c = search needs
 
-element-copy-out-result : tie.Need-element-copy-out-result
-element-copy-out-result c = search needs
+shared-slice-read-result : tie.Need-shared-slice-read-result
+shared-slice-read-result c = search needs
 
 returns : tie.Need-returns
 returns c = rw (le-leb _ _ (c .before .if1 .taken)) refl
@@ -32,9 +32,9 @@ is-own-spec =
     tie.close
     (tie.spec
     mul-if1
-    element-copy-out-if1
+    shared-slice-read-if1
     add-result
     mul-result
-    element-copy-out-result
+    shared-slice-read-result
     returns
     returns-2)

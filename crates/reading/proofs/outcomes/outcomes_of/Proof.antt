@@ -16,8 +16,8 @@ add-from c = search needs
 mul-from-2 : tie.Need-mul-from-2
 mul-from-2 c = search needs
 
-element-copy-out-from : tie.Need-element-copy-out-from
-element-copy-out-from c = search needs
+shared-slice-read-from : tie.Need-shared-slice-read-from
+shared-slice-read-from c = search needs
 
 cast-from : tie.Need-cast-from
 cast-from c =
@@ -35,8 +35,8 @@ add-to-2 c = search needs
 mul-to-2 : tie.Need-mul-to-2
 mul-to-2 c = search needs
 
-element-copy-out-to : tie.Need-element-copy-out-to
-element-copy-out-to c = search needs
+shared-slice-read-to : tie.Need-shared-slice-read-to
+shared-slice-read-to c = search needs
 
 cast-to : tie.Need-cast-to
 cast-to c =
@@ -64,13 +64,13 @@ outcomes-of-spec =
     mul-from
     add-from
     mul-from-2
-    element-copy-out-from
+    shared-slice-read-from
     cast-from
     mul-to
     add-to
     add-to-2
     mul-to-2
-    element-copy-out-to
+    shared-slice-read-to
     cast-to
     sub-result
     part-result-start

@@ -38,7 +38,7 @@ abbrev μ-states : tie.MeasureT-states
 μ-states file index values n s₀ found₀ s found = n - s
 
 states-holds : tie.Need-states-holds Inv-loop μ-loop Inv-states μ-states
-states-holds c = (omega arith, omega arith, state-search-is _ _ (c .before .before .pre .1))
+states-holds c = (omega arith, omega arith, state-search-is _ _ (c .before .before .before .pre .1))
 
 mul-value : tie.Need-mul-value Inv-loop μ-loop Inv-states μ-states
 mul-value c = omega arith
@@ -47,7 +47,7 @@ shared-slice-read-value : tie.Need-shared-slice-read-value Inv-loop μ-loop Inv-
 shared-slice-read-value c = omega arith
 
 cast-value : tie.Need-cast-value Inv-loop μ-loop Inv-states μ-states
-cast-value c = omega (arith, c .shared-slice-known3 .given (c .before .before .states .s))
+cast-value c = omega (arith, c .shared-slice-known4 .given (c .before .before .states .s))
 
 add-end : tie.Need-add-end Inv-loop μ-loop Inv-states μ-states
 add-end c = omega arith
@@ -55,35 +55,35 @@ add-end c = omega arith
 mul-end : tie.Need-mul-end Inv-loop μ-loop Inv-states μ-states
 mul-end c = omega arith
 
-element-copy-out-end : tie.Need-element-copy-out-end Inv-loop μ-loop Inv-states μ-states
-element-copy-out-end c = omega arith
+shared-slice-read-end : tie.Need-shared-slice-read-end Inv-loop μ-loop Inv-states μ-states
+shared-slice-read-end c = omega arith
 
 cast-end : tie.Need-cast-end Inv-loop μ-loop Inv-states μ-states
-cast-end c = omega (arith, last-row-high (c .before .before .before .before .before .before .pre .0) (c .before .before .before .states .s) (omega arith))
+cast-end c = omega (arith, last-row-high (c .before .before .before .before .before .before .before .pre .0) (c .before .before .before .states .s) (omega arith))
 
 mul-r : tie.Need-mul-r Inv-loop μ-loop Inv-states μ-states
 mul-r c = omega arith
 
-element-copy-out-r : tie.Need-element-copy-out-r Inv-loop μ-loop Inv-states μ-states
-element-copy-out-r c = omega arith
+shared-slice-read-r : tie.Need-shared-slice-read-r Inv-loop μ-loop Inv-states μ-states
+shared-slice-read-r c = omega arith
 
 cast-r : tie.Need-cast-r Inv-loop μ-loop Inv-states μ-states
 cast-r c =
-    let begin = rows-begin _ _ (c .before .before .before .before .before .before .before .pre .0) (c .before .before .before .before .states .s) (omega arith) in
-    let end = rows-end _ _ (c .before .before .before .before .before .before .before .pre .0) (c .before .before .before .before .states .s) (omega arith) in
-    omega (arith, last-row-high (c .before .before .before .before .before .before .before .pre .0) (c .before .before .before .before .states .s) (omega arith))
+    let begin = rows-begin _ _ (c .before .before .before .before .before .before .before .before .pre .0) (c .before .before .before .before .states .s) (omega arith) in
+    let end = rows-end _ _ (c .before .before .before .before .before .before .before .before .pre .0) (c .before .before .before .before .states .s) (omega arith) in
+    omega (arith, last-row-high (c .before .before .before .before .before .before .before .before .pre .0) (c .before .before .before .before .states .s) (omega arith))
 
 loop-holds : tie.Need-loop-holds Inv-loop μ-loop Inv-states μ-states
 loop-holds c =
-    let begin = rows-begin _ _ (c .before .before .before .before .before .before .before .pre .0) (c .before .before .before .before .states .s) (omega arith) in
-    let end = rows-end _ _ (c .before .before .before .before .before .before .before .pre .0) (c .before .before .before .before .states .s) (omega arith) in
+    let begin = rows-begin _ _ (c .before .before .before .before .before .before .before .before .pre .0) (c .before .before .before .before .states .s) (omega arith) in
+    let end = rows-end _ _ (c .before .before .before .before .before .before .before .before .pre .0) (c .before .before .before .before .states .s) (omega arith) in
     (omega arith, c .before .before .before .before .states .inv .1, row-search-is _ _ _ begin end)
 
 undercuts-requires : tie.Need-undercuts-requires Inv-loop μ-loop Inv-states μ-states
-undercuts-requires c κs = row-ready (c .before .before .before .before .before .before .before .before .before .pre .0) (c .before .before .before .before .before .before .states .s) (omega arith) (omega arith) (c .loop-test .taken)
+undercuts-requires c κs = row-ready (c .before .before .before .before .before .before .before .before .before .before .pre .0) (c .before .before .before .before .before .before .states .s) (omega arith) (omega arith) (c .loop-test .taken)
 
 add-r : tie.Need-add-r Inv-loop μ-loop Inv-states μ-states
-add-r c = omega (arith, last-row-high (c .before .before .before .before .before .before .before .before .before .before .before .pre .0) (c .before .before .before .before .before .before .before .before .states .s) (omega arith))
+add-r c = omega (arith, last-row-high (c .before .before .before .before .before .before .before .before .before .before .before .before .pre .0) (c .before .before .before .before .before .before .before .before .states .s) (omega arith))
 
 loop-less : tie.Need-loop-less Inv-loop μ-loop Inv-states μ-states
 loop-less c = omega arith
@@ -102,7 +102,7 @@ states-less c = omega arith
 states-again : tie.Need-states-again Inv-loop μ-loop Inv-states μ-states
 states-again c =
     let none = c .before .loop .inv .2 ∙ search-ends _ _ _ (c .before .loop .inv .0) (c .loop-test .left) in
-    let end = rows-end _ _ (c .before .before .before .before .before .before .before .before .before .pre .0) (c .before .before .before .before .before .before .states .s) (omega arith) in
+    let end = rows-end _ _ (c .before .before .before .before .before .before .before .before .before .before .pre .0) (c .before .before .before .before .before .before .states .s) (omega arith) in
     (omega arith, c .before .loop .inv .1, c .before .before .before .before .before .before .states .inv .2 ∙ state-passes _ _ _ _ (c .before .before .before .before .before .states-test .taken) end none)
 
 returns : tie.Need-returns Inv-loop μ-loop Inv-states μ-states
@@ -118,12 +118,12 @@ returns-2 : tie.Need-returns-2 Inv-loop μ-loop Inv-states μ-states
 returns-2 c =
     let below = ltb-true _ _ (sym (c .before .undercuts .ensures) ∙ (c .if1 .taken)) in
     let row = c .before .before .before .loop .inv .2 ∙ row-undercuts _ _ _ _ _ (c .before .before .loop-test .taken) below in
-    let end = rows-end _ _ (c .before .before .before .before .before .before .before .before .before .before .before .pre .0) (c .before .before .before .before .before .before .before .before .states .s) (omega arith) in
+    let end = rows-end _ _ (c .before .before .before .before .before .before .before .before .before .before .before .before .pre .0) (c .before .before .before .before .before .before .before .before .states .s) (omega arith) in
     record {
       state-is = sym (c .before .before .before .before .before .before .before .before .states .inv .2 ∙ state-undercut _ _ _ _ (c .before .before .before .before .before .before .before .states-test .taken) end row (c .before .before .loop-test .taken));
       row-is = λ _. sym row;
       no-row = λ l. absurd (omega arith);
-      row-there = omega (arith, last-row-high (c .before .before .before .before .before .before .before .before .before .before .before .pre .0) (c .before .before .before .before .before .before .before .before .states .s) (omega arith));
+      row-there = omega (arith, last-row-high (c .before .before .before .before .before .before .before .before .before .before .before .before .pre .0) (c .before .before .before .before .before .before .before .before .states .s) (omega arith));
     }
 
 pub first-undercut-spec : {M : Type 1} → statement M
@@ -136,10 +136,10 @@ first-undercut-spec =
     cast-value
     add-end
     mul-end
-    element-copy-out-end
+    shared-slice-read-end
     cast-end
     mul-r
-    element-copy-out-r
+    shared-slice-read-r
     cast-r
     loop-holds
     undercuts-requires

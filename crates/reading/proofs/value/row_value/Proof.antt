@@ -17,11 +17,11 @@ add-from c = search needs
 mul-from-2 : tie.Need-mul-from-2
 mul-from-2 c = search needs
 
-element-copy-out-from : tie.Need-element-copy-out-from
-element-copy-out-from c = search needs
+shared-slice-read-from : tie.Need-shared-slice-read-from
+shared-slice-read-from c = search needs
 
 cast-from : tie.Need-cast-from
-cast-from c = omega (arith, part-ordered (c .before .before .before .pre .ready .indexed) _ (c .before .before .before .pre .row-there), part-inside (c .before .before .before .pre .ready .indexed) _ (c .before .before .before .pre .row-there))
+cast-from c = omega (arith, part-ordered (c .before .before .before .before .pre .ready .indexed) _ (c .before .before .before .before .pre .row-there), part-inside (c .before .before .before .before .pre .ready .indexed) _ (c .before .before .before .before .pre .row-there))
 
 mul-cost : tie.Need-mul-cost
 mul-cost c = search needs
@@ -35,11 +35,11 @@ add-cost-2 c = search needs
 mul-cost-2 : tie.Need-mul-cost-2
 mul-cost-2 c = search needs
 
-element-copy-out-cost : tie.Need-element-copy-out-cost
-element-copy-out-cost c = search needs
+shared-slice-read-cost : tie.Need-shared-slice-read-cost
+shared-slice-read-cost c = search needs
 
 cast-cost : tie.Need-cast-cost
-cast-cost c = omega (arith, cost-fits (c .before .before .before .before .pre) (λ i. c .before .before .before .shared-slice-known .given i .fits))
+cast-cost c = omega (arith, cost-fits (c .before .before .before .before .before .pre) (λ i. c .before .before .before .before .shared-slice-known .given i .fits))
 
 mul-to : tie.Need-mul-to
 mul-to c = search needs
@@ -53,41 +53,41 @@ add-to-2 c = search needs
 mul-to-2 : tie.Need-mul-to-2
 mul-to-2 c = search needs
 
-element-copy-out-to : tie.Need-element-copy-out-to
-element-copy-out-to c = search needs
+shared-slice-read-to : tie.Need-shared-slice-read-to
+shared-slice-read-to c = search needs
 
 cast-to : tie.Need-cast-to
-cast-to c = omega (arith, part-inside (c .before .before .before .before .before .pre .ready .indexed) _ (c .before .before .before .before .before .pre .row-there))
+cast-to c = omega (arith, part-inside (c .before .before .before .before .before .before .pre .ready .indexed) _ (c .before .before .before .before .before .before .pre .row-there))
 
 sub-weighted-sum : tie.Need-sub-weighted-sum
-sub-weighted-sum c = part-ordered (c .before .before .before .before .before .pre .ready .indexed) _ (c .before .before .before .before .before .pre .row-there)
+sub-weighted-sum c = part-ordered (c .before .before .before .before .before .before .pre .ready .indexed) _ (c .before .before .before .before .before .before .pre .row-there)
 
 part-weighted-sum-start : tie.Need-part-weighted-sum-start
-part-weighted-sum-start c = part-ordered (c .before .before .before .before .before .pre .ready .indexed) _ (c .before .before .before .before .before .pre .row-there)
+part-weighted-sum-start c = part-ordered (c .before .before .before .before .before .before .pre .ready .indexed) _ (c .before .before .before .before .before .before .pre .row-there)
 
 part-weighted-sum-end : tie.Need-part-weighted-sum-end
-part-weighted-sum-end c = part-inside (c .before .before .before .before .before .pre .ready .indexed) _ (c .before .before .before .before .before .pre .row-there)
+part-weighted-sum-end c = part-inside (c .before .before .before .before .before .before .pre .ready .indexed) _ (c .before .before .before .before .before .before .pre .row-there)
 
 weighted-sum-requires : tie.Need-weighted-sum-requires
-weighted-sum-requires c κs = sum-there (c .before .before .before .before .before .before .pre)
+weighted-sum-requires c κs = sum-there (c .before .before .before .before .before .before .before .pre)
 
 total-of-requires : tie.Need-total-of-requires
-total-of-requires c κs = c .before .before .before .before .before .before .before .pre .ready .indexed .whole
+total-of-requires c κs = c .before .before .before .before .before .before .before .before .pre .ready .indexed .whole
 
 average-requires : tie.Need-average-requires
-average-requires c κs = rw (c .total-of .ensures) (c .before .before .before .before .before .before .before .before .pre .ready .total-known)
+average-requires c κs = rw (c .total-of .ensures) (c .before .before .before .before .before .before .before .before .before .pre .ready .total-known)
 
 add-value : tie.Need-add-value
 add-value c =
-    omega (arith, cost-fits (c .before .before .before .before .before .before .before .before .before .pre) (λ i. c .before .before .before .before .before .before .before .before .shared-slice-known .given i .fits), c .before .before .weighted-sum .ensures .1, mean-high _ _ (c .average .ensures))
+    omega (arith, cost-fits (c .before .before .before .before .before .before .before .before .before .before .pre) (λ i. c .before .before .before .before .before .before .before .before .before .shared-slice-known .given i .fits), c .before .before .weighted-sum .ensures .1, mean-high _ _ (c .average .ensures))
 
 remainder-of-requires : tie.Need-remainder-of-requires
 remainder-of-requires c κs = c .average .ensures
 
 returns : tie.Need-returns
 returns c = (
-  rw (c .before .average .ensures, c .before .before .before .weighted-sum .ensures .0, c .before .before .total-of .ensures) (row-value-is (c .before .before .before .before .before .before .before .before .before .before .pre) _),
-  c .remainder-of .ensures ∙ rw (c .before .before .before .weighted-sum .ensures .0, c .before .before .total-of .ensures) (row-remainder-is (c .before .before .before .before .before .before .before .before .before .before .pre) _),
+  rw (c .before .average .ensures, c .before .before .before .weighted-sum .ensures .0, c .before .before .total-of .ensures) (row-value-is (c .before .before .before .before .before .before .before .before .before .before .before .pre) _),
+  c .remainder-of .ensures ∙ rw (c .before .before .before .weighted-sum .ensures .0, c .before .before .total-of .ensures) (row-remainder-is (c .before .before .before .before .before .before .before .before .before .before .before .pre) _),
 )
 
 pub row-value-spec : {M : Type 1} → statement M
@@ -97,19 +97,19 @@ row-value-spec =
     mul-from
     add-from
     mul-from-2
-    element-copy-out-from
+    shared-slice-read-from
     cast-from
     mul-cost
     add-cost
     add-cost-2
     mul-cost-2
-    element-copy-out-cost
+    shared-slice-read-cost
     cast-cost
     mul-to
     add-to
     add-to-2
     mul-to-2
-    element-copy-out-to
+    shared-slice-read-to
     cast-to
     sub-weighted-sum
     part-weighted-sum-start

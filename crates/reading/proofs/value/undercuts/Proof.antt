@@ -20,17 +20,17 @@ add-cost-2 c = search needs
 mul-cost-2 : tie.Need-mul-cost-2
 mul-cost-2 c = search needs
 
-element-copy-out-cost : tie.Need-element-copy-out-cost
-element-copy-out-cost c = search needs
+shared-slice-read-cost : tie.Need-shared-slice-read-cost
+shared-slice-read-cost c = search needs
 
 cast-cost : tie.Need-cast-cost
-cast-cost c = omega (arith, cost-fits (c .before .before .before .pre) (λ i. c .before .before .shared-slice-known .given i .fits))
+cast-cost c = omega (arith, cost-fits (c .before .before .before .before .pre) (λ i. c .before .before .before .shared-slice-known .given i .fits))
 
 returns : tie.Need-returns
-returns c = sym (cost-passes (c .before .before .before .before .pre) (byState (c .before .before .before .before .args .values .now)) _ (c .if1 .taken))
+returns c = sym (cost-passes (c .before .before .before .before .before .pre) (byState (c .before .before .before .before .before .args .values .now)) _ (c .if1 .taken))
 
 row-value-requires : tie.Need-row-value-requires
-row-value-requires c κs = c .before .before .before .before .pre
+row-value-requires c κs = c .before .before .before .before .before .pre
 
 returns-2 : tie.Need-returns-2
 returns-2 c = rw (c .before .row-value .ensures .0)
@@ -43,7 +43,7 @@ undercuts-spec =
     add-cost
     add-cost-2
     mul-cost-2
-    element-copy-out-cost
+    shared-slice-read-cost
     cast-cost
     returns
     row-value-requires

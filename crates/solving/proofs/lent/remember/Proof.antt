@@ -22,9 +22,9 @@ loop-holds c = fill-starts
 row-value-requires : tie.Need-row-value-requires Inv-loop μ-loop
 row-value-requires c κs =
     record {
-      ready = c .before .before .before .before .before .pre .0 .ready;
-      entries-there = c .before .before .before .before .before .pre .0 .values-long;
-      row-there = omega (arith, c .loop-test .taken, c .before .before .before .before .before .pre .1);
+      ready = c .before .before .before .before .before .before .pre .0 .ready;
+      entries-there = c .before .before .before .before .before .before .pre .0 .values-long;
+      row-there = omega (arith, c .loop-test .taken, c .before .before .before .before .before .before .pre .1);
     }
 
 cast-remembered : tie.Need-cast-remembered Inv-loop μ-loop
@@ -32,7 +32,7 @@ cast-remembered c =
     omega (
       arith,
       c .before .row-value .ensures .0,
-      c .before .before .before .before .before .before .before .pre .0 .fits (c .before .before .before .loop .r) (omega (arith, c .before .before .loop-test .taken, c .before .before .before .before .before .before .before .pre .1)),
+      c .before .before .before .before .before .before .before .before .pre .0 .fits (c .before .before .before .loop .r) (omega (arith, c .before .before .loop-test .taken, c .before .before .before .before .before .before .before .before .pre .1)),
     )
 
 mul-remembered : tie.Need-mul-remembered Inv-loop μ-loop
@@ -40,7 +40,7 @@ mul-remembered c = search needs
 
 slice-write-remembered : tie.Need-slice-write-remembered Inv-loop μ-loop
 slice-write-remembered c =
-    omega (arith, c .before .before .before .before .before .before .before .pre .0 .remembered-long, c .before .before .before .loop .inv .long, c .before .before .loop-test .taken, c .before .before .before .before .before .before .before .pre .1)
+    omega (arith, c .before .before .before .before .before .before .before .before .pre .0 .remembered-long, c .before .before .before .loop .inv .long, c .before .before .loop-test .taken, c .before .before .before .before .before .before .before .before .pre .1)
 
 add-r : tie.Need-add-r Inv-loop μ-loop
 add-r c = omega (arith, c .before .before .loop-test .taken)

@@ -14,11 +14,11 @@ walk-requires c κs = (c .before .before .before .before .before .before .before
 
 backups-requires : tie.Need-backups-requires
 backups-requires c κs =
-    let h = c .before .before .before .before .before .before .before .before .before .before .before .before .before .before .before .pre .0 in (
+    let h = c .before .before .before .before .before .before .before .before .before .before .before .before .before .before .pre .0 in (
       runnable-backable h,
-      walk-listed h (c .before .before .before .before .before .before .before .walk .ensures) (c .before .before .before .before .before .before .before .walk .kept .1 .1 .1 .0),
-      c .before .before .before .before .before .before .before .before .before .before .before .before .before .before .before .pre .1 .give,
-      round-room h (c .before .before .before .before .before .before .before .walk .ensures) _ _ (c .before .before .before .before .before .before .before .before .before .before .before .before .before .before .before .pre .2),
+      walk-listed h (c .before .before .before .before .before .before .walk .ensures),
+      c .before .before .before .before .before .before .before .before .before .before .before .before .before .before .pre .1 .give,
+      round-room h (c .before .before .before .before .before .before .walk .ensures) _ _ (c .before .before .before .before .before .before .before .before .before .before .before .before .before .before .pre .2),
       refl,
       refl,
     )
@@ -26,11 +26,11 @@ backups-requires c κs =
 least-cost-requires : tie.Need-least-cost-requires
 least-cost-requires c κs =
     let quiet = not-true _ (c .before .before .before .if1 .taken) in
-    let h = c .before .before .before .before .before .before .before .before .before .before .before .before .before .before .before .before .before .before .before .before .before .before .before .before .before .before .before .pre .0 in (
+    let h = c .before .before .before .before .before .before .before .before .before .before .before .before .before .before .before .before .before .before .before .before .before .before .before .before .before .before .pre .0 in (
       h .walkable,
-      quiet-costed h (c .before .before .before .before .before .before .before .before .before .before .before .before .before .before .before .before .before .before .before .walk .ensures) _ _ (c .before .before .before .before .before .before .before .before .before .before .before .backups .ensures .0) quiet,
-      c .before .before .before .before .before .before .before .before .before .before .before .before .before .before .before .before .before .before .before .before .before .before .before .before .before .before .before .pre .1 .states,
-      quiet-start h (c .before .before .before .before .before .before .before .before .before .before .before .before .before .before .before .before .before .before .before .walk .ensures) _ _ (c .before .before .before .before .before .before .before .before .before .before .before .backups .ensures .0) quiet,
+      quiet-costed h (c .before .before .before .before .before .before .before .before .before .before .before .before .before .before .before .before .before .before .walk .ensures) _ _ (c .before .before .before .before .before .before .before .before .before .before .before .backups .ensures .0) quiet,
+      c .before .before .before .before .before .before .before .before .before .before .before .before .before .before .before .before .before .before .before .before .before .before .before .before .before .before .pre .1 .states,
+      quiet-start h (c .before .before .before .before .before .before .before .before .before .before .before .before .before .before .before .before .before .before .walk .ensures) _ _ (c .before .before .before .before .before .before .before .before .before .before .before .backups .ensures .0) quiet,
     )
 
 same-length : tie.Need-same-length
@@ -42,34 +42,28 @@ same-length-2 c = c .before .before .before .before .before .before .before .bef
 same-length-3 : tie.Need-same-length-3
 same-length-3 c = c .before .before .before .before .before .before .before .before .before .before .before .before .backups .kept .1 .1 .1 .1 .0
 
-same-length-4 : tie.Need-same-length-4
-same-length-4 c = c .before .before .before .before .before .before .before .before .before .before .before .before .before .before .before .before .before .before .before .before .walk .kept .1 .1 .1 .0
-
 returns : tie.Need-returns
 returns c =
-    let h = c .before .before .before .before .before .before .before .before .before .before .before .before .before .before .before .before .before .before .before .before .before .before .before .before .before .before .before .before .pre .0 in
-    round-done h (c .before .before .before .before .before .before .before .before .before .before .before .before .before .before .before .before .before .before .before .before .walk .ensures) _ _ _ refl (c .before .before .before .before .before .before .before .before .before .before .before .before .backups .ensures .0)
+    let h = c .before .before .before .before .before .before .before .before .before .before .before .before .before .before .before .before .before .before .before .before .before .before .before .before .before .before .before .pre .0 in
+    round-done h (c .before .before .before .before .before .before .before .before .before .before .before .before .before .before .before .before .before .before .before .walk .ensures) _ _ _ refl (c .before .before .before .before .before .before .before .before .before .before .before .before .backups .ensures .0)
     (λ quiet.
-    quiet-least h (c .before .before .before .before .before .before .before .before .before .before .before .before .before .before .before .before .before .before .before .before .walk .ensures) _ _ (c .before .before .before .before .before .before .before .before .before .before .before .before .backups .ensures .0) quiet _ _
-    (c .before .before .before .before .before .before .before .before .before .before .before .before .before .before .before .before .before .before .before .before .before .before .before .before .before .before .before .before .pre .1 .states) (c .least-cost .ensures))
+    quiet-least h (c .before .before .before .before .before .before .before .before .before .before .before .before .before .before .before .before .before .before .before .walk .ensures) _ _ (c .before .before .before .before .before .before .before .before .before .before .before .before .backups .ensures .0) quiet _ _
+    (c .before .before .before .before .before .before .before .before .before .before .before .before .before .before .before .before .before .before .before .before .before .before .before .before .before .before .before .pre .1 .states) (c .least-cost .ensures))
     (λ moved. absurd (true≢false (sym moved ∙ not-true _ (c .before .before .before .before .if1 .taken))))
     (c .before .before .before .before .before .before .before .before .before .before .before .before .backups .ensures .1) (c .before .before .before .before .before .before .before .before .before .before .before .before .backups .ensures .2)
 
+same-length-4 : tie.Need-same-length-4
+same-length-4 c = c .before .before .before .before .before .before .before .before .backups .kept .1 .1 .0
+
 same-length-5 : tie.Need-same-length-5
-same-length-5 c = c .before .before .before .before .before .before .before .before .backups .kept .1 .1 .0
+same-length-5 c = c .before .before .before .before .before .before .before .before .backups .kept .1 .1 .1 .0
 
 same-length-6 : tie.Need-same-length-6
-same-length-6 c = c .before .before .before .before .before .before .before .before .backups .kept .1 .1 .1 .0
-
-same-length-7 : tie.Need-same-length-7
-same-length-7 c = c .before .before .before .before .before .before .before .before .backups .kept .1 .1 .1 .1 .0
-
-same-length-8 : tie.Need-same-length-8
-same-length-8 c = c .before .before .before .before .before .before .before .before .before .before .before .before .before .before .before .before .walk .kept .1 .1 .1 .0
+same-length-6 c = c .before .before .before .before .before .before .before .before .backups .kept .1 .1 .1 .1 .0
 
 returns-2 : tie.Need-returns-2
 returns-2 c =
-    round-done (c .before .before .before .before .before .before .before .before .before .before .before .before .before .before .before .before .before .before .before .before .before .before .before .before .pre .0) (c .before .before .before .before .before .before .before .before .before .before .before .before .before .before .before .before .walk .ensures) _ _ _ refl (c .before .before .before .before .before .before .before .before .backups .ensures .0)
+    round-done (c .before .before .before .before .before .before .before .before .before .before .before .before .before .before .before .before .before .before .before .before .before .before .before .pre .0) (c .before .before .before .before .before .before .before .before .before .before .before .before .before .before .before .walk .ensures) _ _ _ refl (c .before .before .before .before .before .before .before .before .backups .ensures .0)
     (λ quiet. absurd (true≢false (sym (not-false _ (c .if1 .left)) ∙ quiet)))
     (λ moved. refl)
     (c .before .before .before .before .before .before .before .before .backups .ensures .1) (c .before .before .before .before .before .before .before .before .backups .ensures .2)
@@ -84,10 +78,8 @@ round-spec =
     same-length
     same-length-2
     same-length-3
-    same-length-4
     returns
+    same-length-4
     same-length-5
     same-length-6
-    same-length-7
-    same-length-8
     returns-2)

@@ -21,8 +21,8 @@ add-result-2 c = search needs
 mul-result-2 : tie.Need-mul-result-2
 mul-result-2 c = search needs
 
-element-copy-out-result : tie.Need-element-copy-out-result
-element-copy-out-result c = ⊎-elim (λ g. absurd (c .if1 .left g)) (λ l. omega arith) (c .before .pre)
+shared-slice-read-result : tie.Need-shared-slice-read-result
+shared-slice-read-result c = ⊎-elim (λ g. absurd (c .before .if1 .left g)) (λ l. omega arith) (c .before .before .pre)
 
 returns-2 : tie.Need-returns-2
 returns-2 c = search needs
@@ -36,5 +36,5 @@ pick-cost-spec =
     add-result
     add-result-2
     mul-result-2
-    element-copy-out-result
+    shared-slice-read-result
     returns-2)

@@ -96,8 +96,7 @@ visit-outcomes-loop-less t c = omega arith
 
 visit-outcomes-loop-again : (t : nat.ℕ) → visit-outcomes-lts.Need-loop-again (u16-at-reads.Asked, u16-at-reads.Learnt, visit-state-below t, visit-state-reads.Post) (visit-outcomes-at t) visit-outcomes-reads.Post visit-outcomes-Inv-loop visit-outcomes-μ-loop
 visit-outcomes-loop-again t c =
-    loop-visit (c .before .before .before .before .before .before .before .before .before .loop .inv) (c .before .before .before .before .before .before .before .before .loop-test .taken) _ (c .before .before .before .before .before .before .before .u16-at .ensures .0) (c .before .before .before .before .before .if1 .taken) (c .before .before .visit-state .ensures)
-    (c .before .before .visit-state .kept .1 .1 .1 .1 .0)
+    loop-visit (c .before .before .before .before .before .before .before .loop .inv) (c .before .before .before .before .before .before .loop-test .taken) _ (c .before .before .before .before .before .u16-at .ensures .0) (c .before .before .before .if1 .taken) (c .visit-state .ensures)
 
 visit-outcomes-loop-less-2 : (t : nat.ℕ) → visit-outcomes-lts.Need-loop-less-2 (u16-at-reads.Asked, u16-at-reads.Learnt, visit-state-below t, visit-state-reads.Post) (visit-outcomes-at t) visit-outcomes-reads.Post visit-outcomes-Inv-loop visit-outcomes-μ-loop
 visit-outcomes-loop-less-2 t c = omega arith
@@ -105,9 +104,6 @@ visit-outcomes-loop-less-2 t c = omega arith
 visit-outcomes-loop-again-2 : (t : nat.ℕ) → visit-outcomes-lts.Need-loop-again-2 (u16-at-reads.Asked, u16-at-reads.Learnt, visit-state-below t, visit-state-reads.Post) (visit-outcomes-at t) visit-outcomes-reads.Post visit-outcomes-Inv-loop visit-outcomes-μ-loop
 visit-outcomes-loop-again-2 t c =
     loop-pass (c .before .before .before .before .loop .inv) (c .before .before .before .loop-test .taken) _ (c .before .before .u16-at .ensures .0) (c .if1 .left)
-
-visit-outcomes-same-length : (t : nat.ℕ) → visit-outcomes-lts.Need-same-length (u16-at-reads.Asked, u16-at-reads.Learnt, visit-state-below t, visit-state-reads.Post) (visit-outcomes-at t) visit-outcomes-reads.Post visit-outcomes-Inv-loop visit-outcomes-μ-loop
-visit-outcomes-same-length t c = c .before .loop .inv .long
 
 visit-outcomes-returns : (t : nat.ℕ) → visit-outcomes-lts.Need-returns (u16-at-reads.Asked, u16-at-reads.Learnt, visit-state-below t, visit-state-reads.Post) (visit-outcomes-at t) visit-outcomes-reads.Post visit-outcomes-Inv-loop visit-outcomes-μ-loop
 visit-outcomes-returns t c = loop-end (c .before .loop .inv) (c .loop-test .left)
@@ -122,7 +118,7 @@ visit-state-shared-slice-read-picked : (t : nat.ℕ) → visit-state-lts.Need-sh
 visit-state-shared-slice-read-picked t c = omega (arith, c .before .before .before .before .pre .1 .1, c .before .before .before .before .pre .1 .0 .picks-long)
 
 visit-state-cast-picked : (t : nat.ℕ) → visit-state-lts.Need-cast-picked (picked-reads.Asked, picked-reads.Learnt, visit-outcomes-below t, visit-outcomes-reads.Post, no-goal-reads.Asked, no-goal-reads.Learnt) (visit-state-at t) visit-state-reads.Post
-visit-state-cast-picked t c = omega (arith, c .shared-slice-known3 .given (c .before .before .before .before .args .s))
+visit-state-cast-picked t c = omega (arith, c .shared-slice-known4 .given (c .before .before .before .before .args .s))
 
 visit-state-picked-requires : (t : nat.ℕ) → visit-state-lts.Need-picked-requires (picked-reads.Asked, picked-reads.Learnt, visit-outcomes-below t, visit-outcomes-reads.Post, no-goal-reads.Asked, no-goal-reads.Learnt) (visit-state-at t) visit-state-reads.Post
 visit-state-picked-requires t c κs = index-there (c .before .before .before .before .pre .1 .0 .walkable) _ (c .before .before .before .before .pre .1 .1)
@@ -138,46 +134,34 @@ visit-state-visit-outcomes-requires t c κs = (
 
 visit-state-no-goal-requires : (t : nat.ℕ) → visit-state-lts.Need-no-goal-requires (picked-reads.Asked, picked-reads.Learnt, visit-outcomes-below t, visit-outcomes-reads.Post, no-goal-reads.Asked, no-goal-reads.Learnt) (visit-state-at t) visit-state-reads.Post
 visit-state-no-goal-requires t c κs = (
-  c .before .before .before .before .before .before .before .before .before .before .pre .1 .0 .walkable .ready .indexed .whole,
-  c .before .before .before .before .before .before .before .before .before .before .pre .1 .1,
-  picked-open (c .before .before .before .before .before .before .before .before .before .before .pre .1 .0 .walkable) _ (c .before .before .before .before .before .before .before .before .before .before .pre .1 .1) (c .before .before .before .before .before .before .before .before .before .before .args .picks .now) (c .before .before .before .before .before .picked .ensures),
+  c .before .before .before .before .before .before .before .before .pre .1 .0 .walkable .ready .indexed .whole,
+  c .before .before .before .before .before .before .before .before .pre .1 .1,
+  picked-open (c .before .before .before .before .before .before .before .before .pre .1 .0 .walkable) _ (c .before .before .before .before .before .before .before .before .pre .1 .1) (c .before .before .before .before .before .before .before .before .args .picks .now) (c .before .before .before .picked .ensures),
 )
 
 visit-state-cast-list : (t : nat.ℕ) → visit-state-lts.Need-cast-list (picked-reads.Asked, picked-reads.Learnt, visit-outcomes-below t, visit-outcomes-reads.Post, no-goal-reads.Asked, no-goal-reads.Learnt) (visit-state-at t) visit-state-reads.Post
-visit-state-cast-list t c = omega (arith, c .before .before .before .before .before .before .before .before .before .before .before .before .pre .1 .1, room t (c .before .before .before .before), c .before .before .before .before .before .before .before .before .before .before .before .before .pre .1 .0 .walkable .formed .states-high)
+visit-state-cast-list t c = omega (arith, c .before .before .before .before .before .before .before .before .before .before .pre .1 .1, room t (c .before .before), c .before .before .before .before .before .before .before .before .before .before .pre .1 .0 .walkable .formed .states-high)
 
 visit-state-mul-list : (t : nat.ℕ) → visit-state-lts.Need-mul-list (picked-reads.Asked, picked-reads.Learnt, visit-outcomes-below t, visit-outcomes-reads.Post, no-goal-reads.Asked, no-goal-reads.Learnt) (visit-state-at t) visit-state-reads.Post
 visit-state-mul-list t c =
-    omega (arith, room t (c .before .before .before .before), c .before .before .before .before .visit-outcomes .ensures .grows, c .before .before .before .before .before .before .before .before .before .before .before .before .pre .1 .0 .walkable .formed .states-high)
+    omega (arith, room t (c .before .before), c .before .before .visit-outcomes .ensures .grows, c .before .before .before .before .before .before .before .before .before .before .pre .1 .0 .walkable .formed .states-high)
 
-visit-state-slice-write-list : (t : nat.ℕ) → visit-state-lts.Need-slice-write-list (picked-reads.Asked, picked-reads.Learnt, visit-outcomes-below t, visit-outcomes-reads.Post, no-goal-reads.Asked, no-goal-reads.Learnt) (visit-state-at t) visit-state-reads.Post
-visit-state-slice-write-list t c =
-    omega (
-      arith,
-      room t (c .before .before .before .before),
-      c .before .before .before .before .visit-outcomes .ensures .grows,
-      c .before .before .before .before .before .before .before .before .before .before .before .before .pre .1 .0 .list-long,
-      c .before .before .before .before .visit-outcomes .kept .1 .1 .1 .1 .0,
-    )
+visit-state-element-write-list : (t : nat.ℕ) → visit-state-lts.Need-element-write-list (picked-reads.Asked, picked-reads.Learnt, visit-outcomes-below t, visit-outcomes-reads.Post, no-goal-reads.Asked, no-goal-reads.Learnt) (visit-state-at t) visit-state-reads.Post
+visit-state-element-write-list t c =
+    omega (arith, room t (c .before .before), c .before .before .visit-outcomes .ensures .grows, c .before .before .before .before .before .before .before .before .before .before .pre .1 .0 .walkable .formed .states-high)
 
 visit-state-add-result : (t : nat.ℕ) → visit-state-lts.Need-add-result (picked-reads.Asked, picked-reads.Learnt, visit-outcomes-below t, visit-outcomes-reads.Post, no-goal-reads.Asked, no-goal-reads.Learnt) (visit-state-at t) visit-state-reads.Post
 visit-state-add-result t c =
-    omega (arith, room t (c .before .before .before .before), c .before .before .before .before .visit-outcomes .ensures .grows, c .before .before .before .before .before .before .before .before .before .before .before .before .pre .1 .0 .walkable .formed .states-high)
-
-visit-state-same-length : (t : nat.ℕ) → visit-state-lts.Need-same-length (picked-reads.Asked, picked-reads.Learnt, visit-outcomes-below t, visit-outcomes-reads.Post, no-goal-reads.Asked, no-goal-reads.Learnt) (visit-state-at t) visit-state-reads.Post
-visit-state-same-length t c = search needs
+    omega (arith, room t (c .before .before), c .before .before .visit-outcomes .ensures .grows, c .before .before .before .before .before .before .before .before .before .before .pre .1 .0 .walkable .formed .states-high)
 
 visit-state-returns : (t : nat.ℕ) → visit-state-lts.Need-returns (picked-reads.Asked, picked-reads.Learnt, visit-outcomes-below t, visit-outcomes-reads.Post, no-goal-reads.Asked, no-goal-reads.Learnt) (visit-state-at t) visit-state-reads.Post
 visit-state-returns t c =
-    over-listed (c .before .before .before .before .before .before .before .before .before .before .before .before .pre .1 .0) _ (c .before .before .before .before .before .before .before .before .before .before .before .before .pre .1 .1) (c .before .before .before .before .before .before .before .before .before .before .before .before .pre .1 .2) _ _ (c .before .before .before .before .visit-outcomes .ensures) (led t (c .before .before .before .before .before .before .before))
-    (not-true _ (sym (c .before .no-goal .ensures) ∙ (c .if1 .taken))) (c .before .before .before .before .visit-outcomes .kept .1 .1 .1 .1 .0)
-
-visit-state-same-length-2 : (t : nat.ℕ) → visit-state-lts.Need-same-length-2 (picked-reads.Asked, picked-reads.Learnt, visit-outcomes-below t, visit-outcomes-reads.Post, no-goal-reads.Asked, no-goal-reads.Learnt) (visit-state-at t) visit-state-reads.Post
-visit-state-same-length-2 t c = c .before .before .before .before .visit-outcomes .kept .1 .1 .1 .1 .0
+    over-listed (c .before .before .before .before .before .before .before .before .before .before .pre .1 .0) _ (c .before .before .before .before .before .before .before .before .before .before .pre .1 .1) (c .before .before .before .before .before .before .before .before .before .before .pre .1 .2) _ _ (c .before .before .visit-outcomes .ensures) (led t (c .before .before .before .before .before))
+    (not-true _ (sym (c .before .no-goal .ensures) ∙ (c .if1 .taken)))
 
 visit-state-returns-2 : (t : nat.ℕ) → visit-state-lts.Need-returns-2 (picked-reads.Asked, picked-reads.Learnt, visit-outcomes-below t, visit-outcomes-reads.Post, no-goal-reads.Asked, no-goal-reads.Learnt) (visit-state-at t) visit-state-reads.Post
 visit-state-returns-2 t c =
-    over-goal (c .before .before .before .before .before .before .before .before .before .before .before .before .pre .1 .0) _ (c .before .before .before .before .before .before .before .before .before .before .before .before .pre .1 .1) (c .before .before .before .before .before .before .before .before .before .before .before .before .pre .1 .2) _ _ (c .before .before .before .before .visit-outcomes .ensures) (led t (c .before .before .before .before .before .before .before))
+    over-goal (c .before .before .before .before .before .before .before .before .before .before .pre .1 .0) _ (c .before .before .before .before .before .before .before .before .before .before .pre .1 .1) (c .before .before .before .before .before .before .before .before .before .before .pre .1 .2) _ _ (c .before .before .visit-outcomes .ensures) (led t (c .before .before .before .before .before))
     (not-false _ (sym (c .before .no-goal .ensures) ∙ (c .if1 .left)))
 
 pub +visit-outcomes+visit-state-spec : {M : Type 1} → statement M
@@ -196,7 +180,6 @@ pub +visit-outcomes+visit-state-spec : {M : Type 1} → statement M
     (visit-outcomes-loop-again t)
     (visit-outcomes-loop-less-2 t)
     (visit-outcomes-loop-again-2 t)
-    (visit-outcomes-same-length t)
     (visit-outcomes-returns t))
     (λ t. visit-state-lts.spec (picked-reads.Asked, picked-reads.Learnt, visit-outcomes-below t, visit-outcomes-reads.Post, no-goal-reads.Asked, no-goal-reads.Learnt) (visit-state-at t) visit-state-reads.Post
     (visit-state-element-write-marks t)
@@ -208,9 +191,7 @@ pub +visit-outcomes+visit-state-spec : {M : Type 1} → statement M
     (visit-state-no-goal-requires t)
     (visit-state-cast-list t)
     (visit-state-mul-list t)
-    (visit-state-slice-write-list t)
+    (visit-state-element-write-list t)
     (visit-state-add-result t)
-    (visit-state-same-length t)
     (visit-state-returns t)
-    (visit-state-same-length-2 t)
     (visit-state-returns-2 t))

@@ -13,13 +13,13 @@ use Rattle.walking.proofs.walk.picked.Statement.{statement}
 use Rattle.walking.proofs.walk.picked.Tie as tie
 
 -- the pick is before the next state's first row
-below : (c : tie.Else1) → c .before .before .args .pick < getD (c .before .before .args .index .now) (c .before .before .args .s + 1) 0
+below : (c : tie.Else1) → c .before .before .before .args .pick < getD (c .before .before .before .args .index .now) (c .before .before .before .args .s + 1) 0
 below c =
     ltb-true _ _
-    (and-right (leb (getD (c .before .before .args .index .now) (c .before .before .args .s) 0) (c .before .before .args .pick)) _ (sym (c .before .is-own .ensures) ∙ not-false _ (c .if1 .left)))
+    (and-right (leb (getD (c .before .before .before .args .index .now) (c .before .before .before .args .s) 0) (c .before .before .before .args .pick)) _ (sym (c .before .is-own .ensures) ∙ not-false _ (c .if1 .left)))
 
 is-own-requires : tie.Need-is-own-requires
-is-own-requires c κs = c .pre .0
+is-own-requires c κs = c .before .pre .0
 
 returns : tie.Need-returns
 returns c =
@@ -32,25 +32,25 @@ wide-requires : tie.Need-wide-requires
 wide-requires c κs = search needs
 
 mul-index-at : tie.Need-mul-index-at
-mul-index-at c = omega (arith, c .before .before .before .pre .1, below (c .before), c .wide .ensures)
+mul-index-at c = omega (arith, c .before .before .before .before .pre .1, below (c .before), c .wide .ensures)
 
 add-index-at : tie.Need-add-index-at
-add-index-at c = omega (arith, c .before .before .before .pre .1, below (c .before), c .wide .ensures)
+add-index-at c = omega (arith, c .before .before .before .before .pre .1, below (c .before), c .wide .ensures)
 
 index-at-requires : tie.Need-index-at-requires
-index-at-requires c κs = omega (arith, c .before .before .before .pre .1, below (c .before), c .wide .ensures)
+index-at-requires c κs = omega (arith, c .before .before .before .before .pre .1, below (c .before), c .wide .ensures)
 
 mul-index-at-2 : tie.Need-mul-index-at-2
-mul-index-at-2 c = omega (arith, c .before .before .before .before .pre .1, below (c .before .before), c .before .wide .ensures)
+mul-index-at-2 c = omega (arith, c .before .before .before .before .before .pre .1, below (c .before .before), c .before .wide .ensures)
 
 add-index-at-2 : tie.Need-add-index-at-2
-add-index-at-2 c = omega (arith, c .before .before .before .before .pre .1, below (c .before .before), c .before .wide .ensures)
+add-index-at-2 c = omega (arith, c .before .before .before .before .before .pre .1, below (c .before .before), c .before .wide .ensures)
 
 add-index-at-3 : tie.Need-add-index-at-3
-add-index-at-3 c = omega (arith, c .before .before .before .before .pre .1, below (c .before .before), c .before .wide .ensures)
+add-index-at-3 c = omega (arith, c .before .before .before .before .before .pre .1, below (c .before .before), c .before .wide .ensures)
 
 index-at-requires-2 : tie.Need-index-at-requires-2
-index-at-requires-2 c κs = omega (arith, c .before .before .before .before .pre .1, below (c .before .before), c .before .wide .ensures)
+index-at-requires-2 c κs = omega (arith, c .before .before .before .before .before .pre .1, below (c .before .before), c .before .wide .ensures)
 
 returns-2 : tie.Need-returns-2
 returns-2 c =

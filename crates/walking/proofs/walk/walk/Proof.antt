@@ -3,7 +3,6 @@
 use Rattle.model.specs.Limits.{maxStates}
 use Rattle.guarantee.specs.Graphs.{clear-entry}
 use Rattle.walking.proofs.Starts.{walk-under, walk-over}
-use borrow.Author.Needs.{needs}
 use native.Mathlib.Omega.{arith}
 use Rattle.walking.proofs.walk.walk.Statement.{statement}
 use Rattle.walking.proofs.walk.walk.Tie as tie
@@ -18,13 +17,9 @@ visit-state-requires c κs = (
   clear-entry maxStates (c .start-of .result),
 )
 
-same-length : tie.Need-same-length
-same-length c = search needs
-
 returns : tie.Need-returns
 returns c =
-    walk-over (c .before .before .before .before .before .before .before .before .before .pre .0) _ _ (c .before .before .before .before .before .before .before .before .before .pre .1) (c .before .before .before .before .before .before .before .before .before .pre .2) (c .before .before .before .start-of .ensures)
-    (c .before .before .visit-state .kept .1 .1 .1 .1 .0) (c .before .before .visit-state .ensures)
+    walk-over (c .before .before .before .before .before .before .before .pre .0) _ _ (c .before .before .before .before .before .before .before .pre .1) (c .before .before .before .before .before .before .before .pre .2) (c .before .start-of .ensures) (c .visit-state .ensures)
 
 pub walk-spec : {M : Type 1} → statement M
-walk-spec = tie.close (tie.spec start-of-requires visit-state-requires same-length returns)
+walk-spec = tie.close (tie.spec start-of-requires visit-state-requires returns)

@@ -1,0 +1,60 @@
+-- `step_by` answers the audit's refusal, or what the report's own questions and the move give.
+-- Made by `places make` from answers/step_by.ans: edit that file, and not this one.
+use mathlib.Core.Path.{_∙_, sym, ap}
+use mir.Syntax.{w64}
+use mir.ValLaws.{toZ-ofZ}
+use Rattle.model.specs.Answers.{auditedOf}
+use Rattle.following.proofs.Moves.{report-refused, report-goes-on}
+use borrow.Author.Needs.{needs}
+use Rattle.following.proofs.step_by.Statement.{statement}
+use Rattle.following.proofs.step_by.Tie as tie
+
+audit-file-requires : tie.Need-audit-file-requires
+audit-file-requires c κs = search needs
+
+enum-known-audited : tie.Need-enum-known-audited
+enum-known-audited c = search needs
+
+turned-down-requires : tie.Need-turned-down-requires
+turned-down-requires c κs = search needs
+
+same-length : tie.Need-same-length
+same-length c = search needs
+
+returns : tie.Need-returns
+returns c =
+    report-refused (c .before .before .before .before .before .before .before .before .before .before .before .before .args .file .now) (c .before .before .before .before .before .before .before .before .before .before .before .before .args .values .now) (c .before .before .before .before .before .before .before .before .before .before .before .before .args .picks .now) (c .before .before .before .before .before .before .before .before .before .before .before .before .args .w)
+    (sym (c .before .before .before .before .before .before .audit-file .ensures .answer) ∙ ap auditedOf (c .before .before .audited .given .1))
+    (toZ-ofZ w64 _ (record { sfits = c .before .known-told .given .1 .1 .0 .1 })) (c .turned-down .ensures) _
+
+enum-told : tie.Need-enum-told
+enum-told c = search needs
+
+report-on-requires : tie.Need-report-on-requires
+report-on-requires c κs =
+    record {
+      walkable = c .before .before .before .before .before .audit-file .ensures .walkable _ (ap auditedOf (c .before .enum-told .given .1));
+      picks-long = c .before .before .before .before .before .audit-file .ensures .picks-long _ (ap auditedOf (c .before .enum-told .given .1));
+    }
+
+same-length-2 : tie.Need-same-length-2
+same-length-2 c = search needs
+
+returns-2 : tie.Need-returns-2
+returns-2 c =
+    report-goes-on (c .before .before .before .before .before .before .before .before .before .before .before .before .args .file .now) (c .before .before .before .before .before .before .before .before .before .before .before .before .args .values .now) (c .before .before .before .before .before .before .before .before .before .before .before .before .args .picks .now) (c .before .before .before .before .before .before .before .before .before .before .before .before .args .w)
+    (sym (c .before .before .before .before .before .before .audit-file .ensures .answer) ∙ ap auditedOf (c .before .before .enum-told .given .1)) _ (c .report-on .ensures)
+
+pub step-by-spec : {M : Type 1} → statement M
+step-by-spec =
+    tie.close
+    (tie.spec
+    audit-file-requires
+    enum-known-audited
+    turned-down-requires
+    same-length
+    returns
+    enum-told
+    report-on-requires
+    same-length-2
+    returns-2)
