@@ -38,7 +38,7 @@ abbrev pub indexSize : ℕ
 indexSize = indexFor maxRows
 
 abbrev pub smallRows : ℕ
-smallRows = 512
+smallRows = 1024
 
 abbrev pub smallIndex : ℕ
 smallIndex = indexFor smallRows

@@ -32,7 +32,7 @@ pub const ROWS: usize = MAX_STATES + 1;
 pub const INDEX: usize = ROWS + 2 * MAX_ROWS + 2;
 
 // A call on a file of at most so many rows makes a small index, and does not pay for clearing the entries of rows that there are not.
-pub const SMALL_ROWS: usize = 512;
+pub const SMALL_ROWS: usize = 1024;
 
 pub const SMALL_INDEX: usize = ROWS + 2 * SMALL_ROWS + 2;
 
