@@ -131,13 +131,13 @@ onwards-same h (fine a) = h a
 onwards-same h (over r m) = refl
 
 -- a least cost looks at the marks of states alone
-least-to-same
+least-by-marks
     : (p : Problem) (picks : ℕ → ℕ) (marks marks′ : List ℕ) (k : ℕ) → ((s : ℕ) → s < k → getD marks s 0 ≡ getD marks′ s 0)
     → leastTo p picks marks k ≡ leastTo p picks marks′ k
 unfolding leastTo
-least-to-same p picks marks marks′ zero h = refl
-least-to-same p picks marks marks′ (suc k) h =
-    rw (h k (omega arith), least-to-same p picks marks marks′ k (λ s l. h s (omega arith)))
+least-by-marks p picks marks marks′ zero h = refl
+least-by-marks p picks marks marks′ (suc k) h =
+    rw (h k (omega arith), least-by-marks p picks marks marks′ k (λ s l. h s (omega arith)))
 
 -- A problem under two numbers of marks.
 module _ (p : Problem) (formed : WellFormed p) {m m′ : ℕ} (h : p .states ≤ m) (h′ : p .states ≤ m′) where
@@ -148,7 +148,7 @@ module _ (p : Problem) (formed : WellFormed p) {m m′ : ℕ} (h : p .states ≤
 
   pub leasts-alike : (picks : ℕ → ℕ) → leastCostWith m p picks ≡ leastCostWith m′ p picks
   unfolding leastCostWith
-  leasts-alike picks = least-to-same p picks _ _ (p .states) (walks-alike picks .marks)
+  leasts-alike picks = least-by-marks p picks _ _ (p .states) (walks-alike picks .marks)
 
   rounds-alike : (e : ℕ) (x : Machine) → checkedRoundWith m p e x ≡ checkedRoundWith m′ p e x
   unfolding checkedRoundWith
