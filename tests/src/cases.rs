@@ -3,6 +3,7 @@
 use crate::audit::{audit_file, Verdict};
 use crate::encode::Draft;
 use crate::examples::{file_p, one_state, p_with_penalty, with_total};
+use crate::extremes::dearest_row;
 use crate::finishing::{coarse, slipping, with_tolerance};
 use crate::limits::*;
 use crate::listing::{plan_lines, planned_by, planned_within};
@@ -250,12 +251,16 @@ fn row_value_and_remainder_are_the_exact_sum() {
     }
 }
 
-/// The numbers at the limits: a row value fits in 32 bits, so question 14 is never met.
+/// E10: no file leads to a row value above 32 bits. The largest, 65,535,000 + 400,000,000 ticks, is evaluated
+/// and remembered, in each total.
 #[test]
 fn no_row_value_outgrows_32_bits() {
-    let dearest = u64::from(TICKS) * u64::from(u16::MAX);
-    let most = u64::from(TICKS) * u64::from(MAX_PENALTY);
-    assert!(dearest + most <= u64::from(u32::MAX));
+    for fourth in FOURTHS {
+        let (run, tables) = run(&dearest_row(fourth));
+        let answer = Answer::Solved { rounds: 3, evaluations: 2, least_cost: 400_000_000 };
+        assert_eq!(run, Run { answer, full_count: 3 });
+        assert_eq!(tables.remembered, [465_535_000]);
+    }
 }
 
 /// P in a total.

@@ -154,6 +154,17 @@ pub fn long_lines(fourth: Fourth) -> Draft {
     draft
 }
 
+/// E10: a file whose run evaluates the largest row value that there is: the row of the start, 65,535 s, leads
+/// to a state without rows, which gives up.
+pub fn dearest_row(fourth: Fourth) -> Draft {
+    let mut draft = Draft::new(0, 1, MAX_PENALTY).with_fourth(fourth);
+    let all = draft.total() as u16;
+    draft.add_state();
+    draft.add_row(KIND_SECONDS, u16::MAX, &[(1, all)]);
+    draft.add_state();
+    draft
+}
+
 /// Adds states, from state 0 on, which lead back to it but for a chance to go on, and go on from the
 /// last of them about once in so many moves. Gives the next state's number.
 fn add_loop(draft: &mut Draft, once_in: u32) -> u16 {

@@ -62,7 +62,7 @@ pub fn solve(problem: &Problem, budget: u64, tables: Tables) -> Run {
 
 /// Runs the rounds on a problem: questions 12 and 13, then the work.
 ///
-/// Question 14 is never met: a row value is at most 65,535,000 + 400,000,000 ticks, since no value
+/// No evaluation is checked (E10): a row value is at most 65,535,000 + 400,000,000 ticks, since no value
 /// is above 1000 × D, and that fits in 32 bits.
 #[inline(never)]
 pub fn run(kind: Kind, problem: &Problem, budget: u64, tables: Tables) -> Run {

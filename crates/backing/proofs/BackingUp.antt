@@ -61,19 +61,18 @@ module _ {f index values picks remembered : List ℕ} (h : Backable f index valu
   backup-done e moved l done raised stored same = rw (← done) (rw (stored, same, raised) refl)
 
 -- a scan goes on from giving up
-pub given-going : (give : ℕ) → Going give (give + 1) giveUp false
-given-going give = record { fine = refl; tie = sym (threshold-giving-up (pickOf give giveUp) refl) }
+pub given-going : (give : ℕ) → Going give (give + 1) giveUp
+given-going give = sym (threshold-giving-up (pickOf give giveUp) refl)
 
 -- the loop along a walk list: what is left of the backups, from the i-th on, gives w
-pub record BackLeft (f index list : List ℕ) (n e : ℕ) (w m : Machine) (over : Bool) (i : ℕ) : Type 0 where
+pub record BackLeft (f index list : List ℕ) (n e : ℕ) (w m : Machine) (i : ℕ) : Type 0 where
   pub backable : Backable f index (m .values) (m .picks) (m .remembered)
   pub listed : Listed f list n
   pub left : backups (problemOf f) e (drop i (take n list)) m ≡ w
   pub room : w .evaluations < countBound
   pub within : i ≤ n
-  pub fine : over ≡ false
 
-module _ {f index list : List ℕ} {n e : ℕ} {w m : Machine} {over : Bool} {i : ℕ} (h : BackLeft f index list n e w m over i) where
+module _ {f index list : List ℕ} {n e : ℕ} {w m : Machine} {i : ℕ} (h : BackLeft f index list n e w m i) where
   L : List ℕ
   L = take n list
 
@@ -109,10 +108,9 @@ module _ {f index list : List ℕ} {n e : ℕ} {w m : Machine} {over : Bool} {i 
       )
 
   pub left-backed
-      : {m′ : Machine} {over′ : Bool} → i < n → m′ ≡ backup (problemOf f) e (getD list i 0) m → over′ ≡ false
-      → BackLeft f index list n e w m′ over′ (i + 1)
+      : {m′ : Machine} → i < n → m′ ≡ backup (problemOf f) e (getD list i 0) m → BackLeft f index list n e w m′ (i + 1)
   unfolding L
-  left-backed l same fine =
+  left-backed l same =
       record {
         backable =
             record {
@@ -124,7 +122,6 @@ module _ {f index list : List ℕ} {n e : ℕ} {w m : Machine} {over : Bool} {i 
         left = rw same (next-left l);
         room = h .room;
         within = omega arith;
-        fine = fine;
       }
     where
       o : Open (problemOf f) (getD list i 0)

@@ -1,4 +1,3 @@
 -- Laws that the proofs of this crate cite.
 pub mod Scanning
 pub mod BackingUp
-pub mod Undoing

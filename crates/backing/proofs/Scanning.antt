@@ -19,16 +19,12 @@ use Rattle.reading.specs.RowParts.{rows-begin, rows-end}
 use Rattle.guarantee.specs.Choosing.{threshold-row, beats-below}
 use Rattle.backing.specs.Backable.{countBound, Going, Scannable, takenUnder, othersUnder}
 
--- the code's test is the model's, and then the scan goes on from where it was, or from row r of value q
-module _ {best below pick : ℕ} {over : Bool} (h : Going best below pick over) where
-  pub going-beats : (x : ℕ) → beats x best pick ≡ ltb x below
-  going-beats x = beats-below (pickOf best pick) x ∙ ap (ltb x) (sym (h .tie))
+-- the code's test is the model's, and a scan goes on so from row r of value q
+pub going-beats : (best pick : ℕ) {below : ℕ} → Going best below pick → (x : ℕ) → beats x best pick ≡ ltb x below
+going-beats best pick h x = beats-below (pickOf best pick) x ∙ ap (ltb x) (sym h)
 
-  pub going-still : Going best below pick false
-  going-still = record { fine = refl; tie = h .tie }
-
-pub going-picked : (q r : ℕ) → r < maxRows → Going q q r false
-going-picked q r l = record { fine = refl; tie = sym (threshold-row (pickOf q r) (omega arith)) }
+pub going-picked : (q r : ℕ) → r < maxRows → Going q q r
+going-picked q r l = sym (threshold-row (pickOf q r) (omega arith))
 
 -- a row, and the pick before, in a scan under the values as they are
 module _ {f index values remembered : List ℕ} (h : Scannable f index values remembered) where
@@ -112,16 +108,15 @@ still-scannable e h =
     record { ready = h .ready; values-long = h .values-long; remembered-long = omega (arith, e, h .remembered-long); fits = h .fits }
 
 -- the loop over the others in row order: what is left of the scan, from row r up to `end`, gives w
-pub record ScanLeft (f index values : List ℕ) (prev end : ℕ) (w a : Found) (below : ℕ) (over : Bool) (r : ℕ) : Type 0 where
+pub record ScanLeft (f index values : List ℕ) (prev end : ℕ) (w a : Found) (below r : ℕ) : Type 0 where
   pub scannable : Scannable f index values (a .remembered)
   pub within : r ≤ end
   pub rows : end ≤ problemOf f .rows
   pub left : othersUnder f values prev r (end - r) a ≡ w
   pub room : w .count < countBound
-  pub going : Going (a .best) below (a .pick) over
+  pub going : Going (a .best) below (a .pick)
 
-module _ {f index values : List ℕ} {prev end : ℕ} {w a : Found} {below : ℕ} {over : Bool} {r : ℕ}
-    (h : ScanLeft f index values prev end w a below over r) where
+module _ {f index values : List ℕ} {prev end : ℕ} {w a : Found} {below r : ℕ} (h : ScanLeft f index values prev end w a below r) where
   next-row : (c : Found) → r < end → c ≡ takenUnder (not (eqb r prev)) f values r a → othersUnder f values prev (r + 1) (end - (r + 1)) c ≡ w
   unfolding othersFrom
   next-row c l e =
@@ -129,7 +124,7 @@ module _ {f index values : List ℕ} {prev end : ℕ} {w a : Found} {below : ℕ
       let s : r + 1 ≡ suc r = omega arith in
       rw e (subst (λ x. othersUnder f values prev x (end - (r + 1)) (takenUnder (not (eqb r prev)) f values r a) ≡ w) (sym s) (rw k at (h .left)))
 
-  pub left-passed : r < end → r ≡ prev → ScanLeft f index values prev end w a below over (r + 1)
+  pub left-passed : r < end → r ≡ prev → ScanLeft f index values prev end w a below (r + 1)
   unfolding takenIf
   left-passed l e =
       record {
@@ -142,9 +137,9 @@ module _ {f index values : List ℕ} {prev end : ℕ} {w a : Found} {below : ℕ
       }
 
   pub left-taken
-      : {b : Found} {below′ : ℕ} {over′ : Bool} → r < end → (r ≡ prev → ⊥) → b ≡ consider (problemOf f) (byState values) r a
-      → Going (b .best) below′ (b .pick) over′ → length (b .remembered) ≡ length (a .remembered)
-      → ScanLeft f index values prev end w b below′ over′ (r + 1)
+      : {b : Found} {below′ : ℕ} → r < end → (r ≡ prev → ⊥) → b ≡ consider (problemOf f) (byState values) r a
+      → Going (b .best) below′ (b .pick) → length (b .remembered) ≡ length (a .remembered)
+      → ScanLeft f index values prev end w b below′ (r + 1)
   unfolding takenIf
   left-taken {b} l d e going same =
       record {

@@ -2,7 +2,7 @@
 -- One record for what each is asked.
 use Prim.Native.Nat.{ℕ, _≤_, _<_}
 use mathlib.Core.Path.{_≡_}
-use mathlib.Core.Bool.{Bool, false}
+use mathlib.Core.Bool.{Bool}
 use mathlib.Core.List.{List}
 use lib.ListN.{length, take}
 use Rattle.model.specs.Limits.{valueBound}
@@ -24,10 +24,9 @@ countBound = 18446744073709551615
 abbrev pub found : ℕ → ℕ → ℕ → List ℕ → Found
 found best pick count remembered = record { best = best; pick = pick; count = count; remembered = remembered }
 
--- a scan that may go on: no value was too large, and what is below `below` beats what is best so far
-pub record Going (best below pick : ℕ) (over : Bool) : Type 0 where
-  pub fine : over ≡ false
-  pub tie : below ≡ threshold (pickOf best pick)
+-- what a scan goes on by: a value below `below` beats what is best so far
+abbrev pub Going : ℕ → ℕ → ℕ → Type 0
+Going best below pick = below ≡ threshold (pickOf best pick)
 
 -- the tables, the walk list, the evaluations so far, and whether something moved
 abbrev pub machine : List ℕ → List ℕ → List ℕ → List ℕ → ℕ → Bool → Machine

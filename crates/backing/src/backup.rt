@@ -1,12 +1,10 @@
 // The backup of a state, and the backups of a round.
 // The tables are changed where they lie, so that later states see earlier changes.
-use crate::LOG;
 use crate::scan::Found;
 use crate::scan::scan;
-use crate::scan::undo;
 use model::GIVE_UP;
 ghost use mathlib.Core.Path.{_≡_};
-ghost use mathlib.Core.Bool.{false, _||_, not};
+ghost use mathlib.Core.Bool.{_||_, not};
 ghost use mathlib.Core.List.{List, []};
 ghost use Prim.Native.Nat.{ℕ, _+_, _<_};
 ghost use lib.Dec.{leb, eqb};
@@ -17,13 +15,10 @@ ghost use Rattle.model.specs.Rounds.{raiseOn, scanOf};
 ghost use Rattle.model.specs.Rounds;
 ghost use Rattle.backing.specs.Backable.{countBound, machine, Backable, Listed};
 
-// A round so far: the evaluations of the run, and whether a value rose or a pick changed. Where the value of a row did not fit
-// `over` is set, and that row is `row`, which is 0 otherwise.
+// A round so far: the evaluations of the run, and whether a value rose or a pick changed.
 pub struct Tally {
     pub count: u64,
     pub moved: bool,
-    pub over: bool,
-    pub row: u32,
 }
 
 // "If best − V(s) is at least e, V(s) becomes best": whether it did.
@@ -61,7 +56,6 @@ fn backup(
     values: &mut [u32],
     picks: &mut [u16],
     remembered: &mut [u32],
-    log: &mut [u32; LOG],
     s: usize,
     tolerance: u32,
     give: u32,
@@ -76,8 +70,7 @@ fn backup(
         machine (now (values .exit)) (now (picks .exit)) (now (remembered .exit)) l (r .count) (r .moved)
         ≡ Rounds.backup
         (problemOf (now (file .entry))) tolerance s
-        (machine (now (values .entry)) (now (picks .entry)) (now (remembered .entry)) l (t .count) (t .moved)))
-        × (r .over ≡ false) × (r .row ≡ 0) ⌝ }
+        (machine (now (values .entry)) (now (picks .entry)) (now (remembered .entry)) l (t .count) (t .moved))) ⌝ }
 {
     let prev = picks[s];
     let before = prev as usize;
@@ -87,26 +80,14 @@ fn backup(
         below: give + 1,
         pick: GIVE_UP,
         count: t.count,
-        over: false,
     };
-    let found = scan(file, index, values, remembered, log, s, before, start);
-    if found.over {
-        undo(remembered, log, t.count, found.count);
-        return Tally {
-            count: t.count,
-            moved: t.moved,
-            over: true,
-            row: found.pick as u32,
-        };
-    }
+    let found = scan(file, index, values, remembered, s, before, start);
     let pick = found.pick;
     picks[s] = pick;
     let rose = raise(values, s, found.best, tolerance);
     Tally {
         count: found.count,
         moved: moves(t.moved, rose, pick, prev),
-        over: false,
-        row: 0,
     }
 }
 
@@ -117,7 +98,6 @@ pub fn backups(
     values: &mut [u32],
     picks: &mut [u16],
     remembered: &mut [u32],
-    log: &mut [u32; LOG],
     list: &[u16],
     n: usize,
     tolerance: u32,
@@ -128,16 +108,14 @@ pub fn backups(
         × Listed (now file) (now list) n × (give ≡ giveUpCost (problemOf (now file)))
         × (Rounds.backups
         (problemOf (now file)) tolerance (take n (now list))
-        (machine (now values) (now picks) (now remembered) (take n (now list)) (t .count) (t .moved)) .evaluations < countBound)
-        × (t .over ≡ false) × (t .row ≡ 0) ⌝ }
+        (machine (now values) (now picks) (now remembered) (take n (now list)) (t .count) (t .moved)) .evaluations < countBound) ⌝ }
     ensures { λ r.
-        ⌜ (machine
+        ⌜ machine
         (now (values .exit)) (now (picks .exit)) (now (remembered .exit)) (take n (now (list .entry))) (r .count) (r .moved)
         ≡ Rounds.backups
         (problemOf (now (file .entry))) tolerance (take n (now (list .entry)))
         (machine
-        (now (values .entry)) (now (picks .entry)) (now (remembered .entry)) (take n (now (list .entry))) (t .count) (t .moved)))
-        × (r .over ≡ false) × (r .row ≡ 0) ⌝ }
+        (now (values .entry)) (now (picks .entry)) (now (remembered .entry)) (take n (now (list .entry))) (t .count) (t .moved)) ⌝ }
 {
     let mut tally = t;
     let mut i = 0;
@@ -149,15 +127,11 @@ pub fn backups(
             values,
             picks,
             remembered,
-            log,
             s,
             tolerance,
             give,
             tally,
         );
-        if tally.over {
-            return tally;
-        }
         i += 1;
     }
     tally

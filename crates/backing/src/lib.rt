@@ -2,6 +2,3 @@
 // Apart from the run, so that a change of the run proves none of it again.
 pub mod backup;
 mod scan;
-
-// A log of the last 256 evaluations, two entries each: a row, and what it remembered before. A backup has at most 255.
-pub const LOG: usize = 512;

@@ -1,54 +1,25 @@
 // The rows of one backup: the one picked before first, then the others in row order.
 // A row whose remembered value does not beat what is best so far would not be picked, so that it is not evaluated.
-use crate::LOG;
-use model::VALUE_BOUND;
 use reading::value::row_value;
 ghost use mathlib.Core.Path.{_≡_};
-ghost use mathlib.Core.Bool.{true, _&&_};
+ghost use mathlib.Core.Bool.{_&&_};
 ghost use mathlib.Core.List.{List};
-ghost use Prim.Native.Nat.{ℕ, _+_, _-_, _≤_, _<_};
+ghost use Prim.Native.Nat.{ℕ, _-_, _≤_, _<_};
 ghost use lib.Dec.{leb, ltb};
-ghost use lib.ListN.{length, getD, set};
+ghost use lib.ListN.{set};
 ghost use Rattle.model.specs.Limits.{maxRows};
 ghost use Rattle.model.specs.Sections.{problemOf};
 ghost use Rattle.model.specs.Rounds.{evaluate};
 ghost use Rattle.backing.specs.Backable.{countBound, found, Going, Scannable};
 ghost use Rattle.backing.specs.Backable.{considerUnder, takenUnder, othersUnder, scanUnder};
-ghost use Rattle.backing.specs.Log.{noted, undone};
 
 // A scan so far: what is best, what a value must be below to beat it, the pick, and the evaluations counted. Once a row is best
-// `below` is best; while giving up is best it is one more, so that a tie goes to the row. Where the value of a row does not fit in
-// 32 bits `over` is set, the pick is that row, and nothing is below 0, so that every later row is skipped.
+// `below` is best; while giving up is best it is one more, so that a tie goes to the row.
 pub struct Found {
     pub best: u32,
     pub below: u32,
     pub pick: u16,
     pub count: u64,
-    pub over: bool,
-}
-
-// Notes that row r remembered `old` before evaluation number `count`.
-fn note(log: &mut [u32; LOG], count: u64, r: usize, old: u32)
-    requires { ⌜ r < maxRows ⌝ }
-    ensures { λ _. ⌜ now (log .exit) ≡ noted (now (log .entry)) count r old ⌝ }
-{
-    let k = 2 * ((count % 256) as usize);
-    log[k] = r as u32;
-    log[k + 1] = old;
-}
-
-// Question 14: the value of row r does not fit.
-fn too_large(r: usize, a: Found) -> Found
-    requires { ⌜ r < maxRows ⌝ }
-    ensures { λ b. ⌜ (b .best ≡ 0) × (b .below ≡ 0) × (b .pick ≡ r) × (b .count ≡ a .count) × (b .over ≡ true) ⌝ }
-{
-    Found {
-        best: 0,
-        below: 0,
-        pick: r as u16,
-        count: a.count,
-        over: true,
-    }
 }
 
 // Whether x beats what is best so far: the test by which a row is skipped, and by which it is picked.
@@ -60,10 +31,10 @@ fn beats(x: u32, below: u32) -> bool
 
 // Row r has value q: it is counted, and picked if q beats what is best so far.
 fn evaluated(q: u32, r: usize, a: Found) -> Found
-    requires { ⌜ (r < maxRows) × (a .count < countBound) × Going (a .best) (a .below) (a .pick) (a .over) ⌝ }
+    requires { ⌜ (r < maxRows) × (a .count < countBound) × Going (a .best) (a .below) (a .pick) ⌝ }
     ensures { λ b.
         ⌜ ((l : List ℕ) → found (b .best) (b .pick) (b .count) (set l r q) ≡ evaluate q r (found (a .best) (a .pick) (a .count) l))
-        × Going (b .best) (b .below) (b .pick) (b .over) ⌝ }
+        × Going (b .best) (b .below) (b .pick) ⌝ }
 {
     if beats(q, a.below) {
         Found {
@@ -71,7 +42,6 @@ fn evaluated(q: u32, r: usize, a: Found) -> Found
             below: q,
             pick: r as u16,
             count: a.count + 1,
-            over: false,
         }
     } else {
         Found {
@@ -79,7 +49,6 @@ fn evaluated(q: u32, r: usize, a: Found) -> Found
             below: a.below,
             pick: a.pick,
             count: a.count + 1,
-            over: false,
         }
     }
 }
@@ -90,29 +59,24 @@ fn consider(
     index: &[u32],
     values: &[u32],
     remembered: &mut [u32],
-    log: &mut [u32; LOG],
     r: usize,
     a: Found,
 ) -> Found
     requires { ⌜ Scannable (now file) (now index) (now values) (now remembered)
-        × (r < problemOf (now file) .rows) × (a .count < countBound) × Going (a .best) (a .below) (a .pick) (a .over) ⌝ }
+        × (r < problemOf (now file) .rows) × (a .count < countBound) × Going (a .best) (a .below) (a .pick) ⌝ }
     ensures { λ b.
         ⌜ (found (b .best) (b .pick) (b .count) (now (remembered .exit))
         ≡ considerUnder
         (now (file .entry)) (now (values .entry)) r
         (found (a .best) (a .pick) (a .count) (now (remembered .entry))))
-        × Going (b .best) (b .below) (b .pick) (b .over) ⌝ }
+        × Going (b .best) (b .below) (b .pick) ⌝ }
 {
     let old = remembered[r];
     if !beats(old, a.below) {
         return a;
     }
     let q = row_value(file, index, values, r);
-    if VALUE_BOUND <= q.value {
-        return too_large(r, a);
-    }
     let value = q.value as u32;
-    note(log, a.count, r, old);
     remembered[r] = value;
     evaluated(value, r, a)
 }
@@ -123,20 +87,19 @@ fn picked(
     index: &[u32],
     values: &[u32],
     remembered: &mut [u32],
-    log: &mut [u32; LOG],
     first: usize,
     end: usize,
     prev: usize,
     a: Found,
 ) -> Found
     requires { ⌜ Scannable (now file) (now index) (now values) (now remembered)
-        × (end ≤ problemOf (now file) .rows) × (a .count < countBound) × Going (a .best) (a .below) (a .pick) (a .over) ⌝ }
+        × (end ≤ problemOf (now file) .rows) × (a .count < countBound) × Going (a .best) (a .below) (a .pick) ⌝ }
     ensures { λ b.
         ⌜ (found (b .best) (b .pick) (b .count) (now (remembered .exit))
         ≡ takenUnder
         (leb first prev && ltb prev end) (now (file .entry)) (now (values .entry)) prev
         (found (a .best) (a .pick) (a .count) (now (remembered .entry))))
-        × Going (b .best) (b .below) (b .pick) (b .over) ⌝ }
+        × Going (b .best) (b .below) (b .pick) ⌝ }
 {
     if prev < first {
         return a;
@@ -144,7 +107,7 @@ fn picked(
     if end <= prev {
         return a;
     }
-    consider(file, index, values, remembered, log, prev, a)
+    consider(file, index, values, remembered, prev, a)
 }
 
 // The rows from `first` to `end` in order, but for the one picked before.
@@ -153,7 +116,6 @@ fn others(
     index: &[u32],
     values: &[u32],
     remembered: &mut [u32],
-    log: &mut [u32; LOG],
     first: usize,
     end: usize,
     prev: usize,
@@ -164,13 +126,13 @@ fn others(
         × (othersUnder
         (now file) (now values) prev first (end - first)
         (found (a .best) (a .pick) (a .count) (now remembered)) .count < countBound)
-        × Going (a .best) (a .below) (a .pick) (a .over) ⌝ }
+        × Going (a .best) (a .below) (a .pick) ⌝ }
     ensures { λ b.
         ⌜ (found (b .best) (b .pick) (b .count) (now (remembered .exit))
         ≡ othersUnder
         (now (file .entry)) (now (values .entry)) prev first (end - first)
         (found (a .best) (a .pick) (a .count) (now (remembered .entry))))
-        × Going (b .best) (b .below) (b .pick) (b .over) ⌝ }
+        × Going (b .best) (b .below) (b .pick) ⌝ }
 {
     let mut b = a;
     let mut next = first;
@@ -178,7 +140,7 @@ fn others(
         let r = next;
         next += 1;
         if r != prev {
-            b = consider(file, index, values, remembered, log, r, b);
+            b = consider(file, index, values, remembered, r, b);
         }
     }
     b
@@ -190,7 +152,6 @@ pub fn scan(
     index: &[u32],
     values: &[u32],
     remembered: &mut [u32],
-    log: &mut [u32; LOG],
     s: usize,
     prev: usize,
     a: Found,
@@ -200,29 +161,16 @@ pub fn scan(
         × (scanUnder
         (now file) (now values) s prev
         (found (a .best) (a .pick) (a .count) (now remembered)) .count < countBound)
-        × Going (a .best) (a .below) (a .pick) (a .over) ⌝ }
+        × Going (a .best) (a .below) (a .pick) ⌝ }
     ensures { λ b.
         ⌜ (found (b .best) (b .pick) (b .count) (now (remembered .exit))
         ≡ scanUnder
         (now (file .entry)) (now (values .entry)) s prev
         (found (a .best) (a .pick) (a .count) (now (remembered .entry))))
-        × Going (b .best) (b .below) (b .pick) (b .over) ⌝ }
+        × Going (b .best) (b .below) (b .pick) ⌝ }
 {
     let first = index[s] as usize;
     let end = index[s + 1] as usize;
-    let b = picked(file, index, values, remembered, log, first, end, prev, a);
-    others(file, index, values, remembered, log, first, end, prev, b)
-}
-
-// Gives the rows evaluated from evaluation number `from` to `to` back what they remembered before, the last one first.
-pub fn undo(remembered: &mut [u32], log: &[u32; LOG], from: u64, to: u64)
-    requires { ⌜ ((k : ℕ) → getD (now log) k 0 < length (now remembered)) ⌝ }
-    ensures { λ _. ⌜ now (remembered .exit) ≡ undone (now (log .entry)) from (to - from) (now (remembered .entry)) ⌝ }
-{
-    let mut count = to;
-    while from < count {
-        count -= 1;
-        let k = 2 * ((count % 256) as usize);
-        remembered[log[k] as usize] = log[k + 1];
-    }
+    let b = picked(file, index, values, remembered, first, end, prev, a);
+    others(file, index, values, remembered, first, end, prev, b)
 }

@@ -14,7 +14,7 @@ use Rattle.model.specs.Sections.{problemOf}
 use Rattle.model.specs.Rounds.{Found, Machine, Ending, beats, evaluateOn, skipped, considerOn, consider, scanStart, scanOf}
 use Rattle.model.specs.Rounds.{raiseOn, rises, settle, backup, walked, fillTo, machineStart, runOf, listTable}
 use Rattle.model.specs.declared.Kind.{Kind}
-use Rattle.model.specs.Solution.{fine, Tables, tablesOf, solutionOf, solutionOfWith, solution}
+use Rattle.model.specs.Solution.{Tables, tablesOf, solutionOf, solutionOfWith, solution}
 use Rattle.guarantee.specs.WellFormed.{WellFormed, well-formed}
 use Rattle.guarantee.specs.Walks.{own-row, listed-number}
 use Rattle.guarantee.specs.Traversals.{traverse-keeps}
@@ -131,7 +131,7 @@ solution-beyond kind f budget t = go (told kind f budget t)
     same e = rw e (record { values = refl; picks = refl; remembered = refl; walk-list = refl })
 
     on : WellFormed (problemOf f) → (run : Ending) → Keeps (problemOf f) t (machineOf run)
-        → Beyond (problemOf f) t (solutionOf (problemOf f) (t .walk-list) (fine run) .tables)
+        → Beyond (problemOf f) t (solutionOf (problemOf f) (t .walk-list) run .tables)
     on formed (Ending.solved n m) h = left-beyond (problemOf f) formed t m h
     on formed (Ending.spent n m) h = left-beyond (problemOf f) formed t m h
 

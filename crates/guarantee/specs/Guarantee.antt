@@ -24,7 +24,7 @@ use Rattle.model.specs.Rounds.{listTable, bellman}
 use Rattle.model.specs.declared.Counts.{Counts}
 use Rattle.model.specs.declared.Kind.{Kind}
 use Rattle.model.specs.declared.Kind.the-variants.{Plain, Finishing}
-use Rattle.model.specs.Solution.{fine, Tables, solved, spent, refused, solutionOf, solveQuestions, solution, solutionWithin}
+use Rattle.model.specs.Solution.{Tables, solved, spent, refused, solutionOf, solveQuestions, solution, solutionWithin}
 use Rattle.model.specs.Answers.{answerCarries}
 use Rattle.model.specs.Audit.{accepted, refused as audit-refused, ownPick, pickValue, audit, auditWithin}
 use Rattle.model.specs.Following.{wayTo, waySeconds, hasOutcome, done, refused as report-refused, Report, atStart, opening, report}
@@ -46,7 +46,7 @@ use Rattle.guarantee.specs.Walks.{reached-marked, walk-whole, listed-rea
 use Rattle.guarantee.specs.Walks.{least-low, least-cheapest}
 use Rattle.guarantee.specs.Accepted.{Accepts, audit-exactly, audit-table}
 use Rattle.guarantee.specs.Closeness.{audit-lower, audit-close}
-use Rattle.guarantee.specs.Sound.{Allowed, best-is-bellman, backup-rises}
+use Rattle.guarantee.specs.Sound.{Allowed, evaluation-fits, best-is-bellman, backup-rises}
 use Rattle.guarantee.specs.Sound.{scan-gives-up, scan-takes-row, scan-pick-stays, scan-order-wins}
 use Rattle.guarantee.specs.Backups.{machineOf, run-keeps, whole-run-keeps}
 use Rattle.guarantee.specs.Allowances.{rounds-enough-fit}
@@ -56,7 +56,7 @@ use Rattle.guarantee.specs.Beyond.{Beyond, solution-beyond}
 use Rattle.guarantee.specs.Hollow.{table-too-dear}
 use Rattle.guarantee.specs.Underway.{Underway, turn-open, underway-start, underway-walked, underway-backup, scan-any-memory}
 use Rattle.guarantee.specs.Solutions.{lent-sound, solution-run, solution-ends, spent-budget, spent-the-same, refused-by}
-use Rattle.guarantee.specs.Solutions.{evaluations-few, never-fourteen, answer-accepted, answer-gives-up}
+use Rattle.guarantee.specs.Solutions.{evaluations-few, answer-accepted, answer-gives-up}
 use Rattle.guarantee.specs.Lent.{cut}
 use Rattle.guarantee.specs.Longer.{CountsWithin, old-verdict, old-solution, old-audit, old-exchange, old-opening}
 use Rattle.guarantee.specs.Longer.{old-report, old-rows}
@@ -115,11 +115,11 @@ giving-up-refused f values picks file values-long picks-long zeros high gives r 
     (dear .question, dear .place, dear .excess, audit-table f values picks file values-long picks-long ∙ dear .refusal, dear .number)
 
 -- Demand 2: "A solved or spent run equals, in values, moves and counts, the rounds of document 01": what is handed back is that of `runOf`,
--- the rounds with no check of question 14, of the plain run or of E8's
+-- the rounds of the plain run or of E8's
 pub runs-the-rounds
     : (kind : Kind) (f : List ℕ) (budget : ℕ) (t : Tables) → fileQuestions f ≡ passes → solveQuestions (problemOf f) budget t ≡ passes
     → solution kind f budget t
-    ≡ solutionOf (problemOf f) (t .walk-list) (fine (runOf kind (problemOf f) budget (t .values) (t .picks) (t .remembered)))
+    ≡ solutionOf (problemOf f) (t .walk-list) (runOf kind (problemOf f) budget (t .values) (t .picks) (t .remembered))
 runs-the-rounds kind f budget t file lent = solution-run f budget t file lent kind
 
 -- "If the budget is reached first, the run is spent.": none says so before it has done every round of its budget
@@ -393,15 +393,12 @@ encoded-reads-back p fits = (encode-passes p fits, encode-reads p fits)
 pub file-longer-than-tables : (f : List ℕ) → fileQuestions f ≡ passes → 4 * problemOf f .states < length f
 file-longer-than-tables = file-long
 
--- Demand 1: "the first failed question of document 01 with its place, lent tables unchanged (save at 14)". The question is one of 1 to 13
+-- Demand 1: "the first failed question of document 01 with its place, lent tables unchanged", since E10 with no exception. The question is
+-- one of 1 to 13
 pub refusal
     : (kind : Kind) (f : List ℕ) (budget : ℕ) (t : Tables) (q i : ℕ) → solution kind f budget t .answer ≡ refused q i
     → ((fileQuestions f then solveQuestions (problemOf f) budget t) ≡ fails q i) × (solution kind f budget t .tables ≡ t)
 refusal kind f budget t q i h = let by = refused-by kind f budget t q i h in (by .failed, by .left)
-
--- and number 14 never comes
-pub never-overflows : (kind : Kind) (f : List ℕ) (budget : ℕ) (t : Tables) (r : ℕ) → solution kind f budget t .answer ≡ refused 14 r → ⊥
-never-overflows = never-fourteen
 
 -- The machines that rounds of a problem from lent tables meet, with the states that are still to be backed up in their round: at first;
 -- after the walk of a round, with the whole list; after the backup of the state whose turn it is, with whatever tolerance, with the states
@@ -441,6 +438,14 @@ module _ (f : List ℕ) (budget : ℕ) (t : Tables) (file : fileQuestions f ≡ 
   underway (walks {m = m} met) = underway-walked (problemOf f) (well-formed f file) (problemOf f .tolerance) m (underway met)
   underway (backs-up e {s = s} {rest = rest} {m = m} met) =
       underway-backup (problemOf f) (well-formed f file) e s rest m (underway met)
+
+  -- Request E10: "Operators must acknowledge number 14 in their handbook and no file has produced it. Show that an accepted file never
+  -- leads to it, at the limits of E9 and for each W". A run, plain or finishing, starts, walks and backs up, so that it evaluates rows only
+  -- under the values of machines that are met: under these every row's value fits in 32 bits
+  pub row-values-fit
+      : {rest : List ℕ} {m : Machine} → Met (problemOf f) t rest m → (r : ℕ) → r < problemOf f .rows
+      → rowValue (problemOf f) (byState (m .values)) r < valueBound
+  row-values-fit {m = m} met = evaluation-fits (problemOf f) (well-formed f file) m (underway met .sound)
 
   -- Demand 2: "A solved or spent run equals, in values, moves and counts, the rounds of document 01, built on the Bellman backup". Best of
   -- a backup is document 000's definition 4 under the values of that moment, with giving up as one more choice

@@ -1,7 +1,7 @@
 -- The theorems speak of something: each theorem of Guarantee.antt that has hypotheses is cited where they are met, by file P of
 -- document 01, its answer and its run, or by another small file of the cases: here those about files, audits and whole runs, in
 -- RoundInstances.antt those about the rounds and the walk, in ShiftInstances.antt those about following. `exactly`, `beyond-stays`,
--- `value-with-remainder`, `run-met` and `report-exactly` have no hypothesis; that of `never-overflows` is never met, which is what it says.
+-- `value-with-remainder`, `run-met` and `report-exactly` have no hypothesis.
 -- P's facts are those of the melt-room cases and a few more computed from its bytes; the rest cites the theorems.
 use mathlib.Core.Path.{_≡_, refl, sym, _∙_, ap}
 use Prim.Native.Nat.{ℕ, _+_, _-_, _*_, _≤_, _<_}
@@ -39,7 +39,7 @@ use Rattle.model.specs.Carried.{counts}
 use Rattle.model.specs.declared.Counts.{Counts}
 use Rattle.model.specs.declared.Kind.{Kind}
 use Rattle.model.specs.declared.Kind.the-variants.{Plain, Finishing}
-use Rattle.model.specs.Solution.{fine, Tables, solved, spent, refused, solutionOf, solutionOfWith, solveQuestions, solution}
+use Rattle.model.specs.Solution.{Tables, solved, spent, refused, solutionOf, solutionOfWith, solveQuestions, solution}
 use Rattle.model.specs.Solution.{solutionWithin}
 use Rattle.model.specs.Audit.{accepted, refused as audit-refused, audit, auditWithin, problemAuditWith, tableQuestionsWith}
 use Rattle.model.specs.Audit.{unboundedState, strayState, slackState, pickValue}
@@ -169,7 +169,7 @@ p-lent budget l = yes-ask 13 0 (le-leb budget maxBudget l)
 pub p-runs
     : (budget : ℕ) → budget ≤ maxBudget
     → solution Plain fileP budget (lent 3)
-    ≡ solutionOf problemP (lent 3 .walk-list) (fine (runOf Plain problemP budget (lent 3 .values) (lent 3 .picks) (lent 3 .remembered)))
+    ≡ solutionOf problemP (lent 3 .walk-list) (runOf Plain problemP budget (lent 3 .values) (lent 3 .picks) (lent 3 .remembered))
 p-runs budget l = runs-the-rounds Plain fileP budget (lent 3) p-passes (p-lent budget l)
 
 -- "Budget 0 is spent with the first state"

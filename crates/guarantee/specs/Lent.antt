@@ -20,7 +20,7 @@ use Rattle.model.specs.Rounds.{beats, raiseOn, rises, settle, backup, backups, 
 use Rattle.model.specs.Rounds.{machineStart, goesOn, goesOnWith, listTable}
 use Rattle.model.specs.declared.Kind.{Kind}
 use Rattle.model.specs.declared.Kind.the-variants.{Plain, Finishing}
-use Rattle.model.specs.Solution.{fine, Tables, tables, Answer, Solution, tablesOf, solveQuestions, solutionOf, solutionOfWith}
+use Rattle.model.specs.Solution.{Tables, tables, Answer, Solution, tablesOf, solveQuestions, solutionOf, solutionOfWith}
 use Rattle.model.specs.Solution.{solution}
 use Rattle.guarantee.specs.Searches.{then-first, then-next}
 use Rattle.guarantee.specs.Tables.{front-entry, fill-front}
@@ -62,7 +62,7 @@ cut p x = record { answer = x .answer; tables = cutTables p (x .tables) }
 -- the solution that a run from a machine leaves, with a lent walk list, and the lines of the first k states
 
 abbrev ranFrom : Problem → Kind → ℕ → List ℕ → Machine → Solution
-ranFrom p kind budget lent m = solutionOf p lent (fine (goesOn kind p budget (runFrom p (p .tolerance) budget true 0 m)))
+ranFrom p kind budget lent m = solutionOf p lent (goesOn kind p budget (runFrom p (p .tolerance) budget true 0 m))
 
 abbrev linesOf : Problem → List ℕ → List ℕ → List ℕ → ℕ → List ℕ
 linesOf p values picks list k = stateLines values picks (remaindersOf p values picks) list k
@@ -186,7 +186,7 @@ module _ (p : Problem) (formed : WellFormed p) where
       refl
 
   left-cut
-      : (lent : List ℕ) (end : Ending) → cut p (solutionOf p lent (fine end)) ≡ cut p (solutionOf p [] (fine (cutEnding p end)))
+      : (lent : List ℕ) (end : Ending) → cut p (solutionOf p lent end) ≡ cut p (solutionOf p [] (cutEnding p end))
   unfolding solutionOfWith
   left-cut lent (solved n m) =
       rw (least-cut (byState (take (p .states) (m .picks))) (byState (m .picks)) (entry-cut (m .picks)), tables-cut lent m)

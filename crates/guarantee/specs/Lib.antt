@@ -28,7 +28,6 @@ pub mod Bellman
 pub mod Sound
 pub mod Backups
 pub mod Evaluations
-pub mod Checks
 pub mod Underway
 -- The run ends
 pub mod Potential

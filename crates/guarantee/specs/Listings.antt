@@ -20,7 +20,7 @@ use Rattle.model.specs.Rounds.{Machine, Ending, solved, spent, scanOf, backup, 
 use Rattle.model.specs.Rounds.{machineStart, listTable}
 use Rattle.model.specs.declared.Counts.{Counts}
 use Rattle.model.specs.declared.Kind.{Kind}
-use Rattle.model.specs.Solution.{fine, Tables, Solution, solved as answer-solved, solutionOf, solutionOfWith, solution}
+use Rattle.model.specs.Solution.{Tables, Solution, solved as answer-solved, solutionOf, solutionOfWith, solution}
 use Rattle.guarantee.specs.WellFormed.{WellFormed, well-formed}
 use Rattle.guarantee.specs.Values.{pickRemainder-give, pickRemainder-row}
 use Rattle.guarantee.specs.Searches.{or-right}
@@ -160,7 +160,7 @@ module _ (kind : Kind) (f : List ℕ) (budget : ℕ) (t : Tables) where
           let low : s < listEnd = omega (arith, formed .states-high) in
           pick-line p formed _ s _ l (picked .has s (table-listed s (p .states) (m .list) (t .walk-list) low h))
 
-      on : WellFormed p → (run : Ending) → Picked p (machineOf run) → Lines (solutionOf p (t .walk-list) (fine run))
+      on : WellFormed p → (run : Ending) → Picked p (machineOf run) → Lines (solutionOf p (t .walk-list) run)
       on formed (solved n m) picked s h = line formed m picked s (h .0) (h .1)
       on formed (spent n m) picked s h = line formed m picked s (h .0) (h .1)
 

@@ -21,9 +21,8 @@ use Rattle.model.specs.Questions.{Verdict, passes, fails, _then_, ask, sectionQ
 use Rattle.model.specs.Questions.{layoutQuestions, layoutQuestionsWithin, fileQuestions, fileQuestionsWithin}
 use Rattle.model.specs.Walk.{In, here, there, Trail, mark, join, visitOn, visitOutcomes, visitState}
 use Rattle.model.specs.Walk.{next, walkWith, leastTo, leastCostWith}
-use Rattle.model.specs.Rounds.{Machine, Ending, machineStart}
-use Rattle.model.specs.Solution.{Checked, fine, over, onwards, checkedRoundWith, checkedRunFromWith, checkedGoesOnWith}
-use Rattle.model.specs.Solution.{checkedRunOfWith, Tables, solutionOfWith, solveQuestions, solutionOnWith, solution, solutionWithin}
+use Rattle.model.specs.Rounds.{Machine, Ending, machineStart, roundWith, runFromWith, goesOnWith, runOfWith}
+use Rattle.model.specs.Solution.{Tables, solutionOfWith, solveQuestions, solutionOnWith, solution, solutionWithin}
 use Rattle.model.specs.Audit.{open-state, ownPick, pickValue, strayState, slackState, tableQuestionsWith, problemAuditWith}
 use Rattle.model.specs.Audit.{auditOnWith, audit, auditWithin}
 use Rattle.model.specs.Promises.{planTables, heldOn, planSolution}
@@ -126,10 +125,6 @@ module _ (goal : ℕ → Bool) (next : ℕ → List ℕ) (n : ℕ) (along : (s t
       }
       .alike
 
-onwards-same : {A B : Type 0} {g g′ : A → Checked B} → ((a : A) → g a ≡ g′ a) → (c : Checked A) → onwards c g ≡ onwards c g′
-onwards-same h (fine a) = h a
-onwards-same h (over r m) = refl
-
 -- a least cost looks at the marks of states alone
 least-by-marks
     : (p : Problem) (picks : ℕ → ℕ) (marks marks′ : List ℕ) (k : ℕ) → ((s : ℕ) → s < k → getD marks s 0 ≡ getD marks′ s 0)
@@ -150,41 +145,36 @@ module _ (p : Problem) (formed : WellFormed p) {m m′ : ℕ} (h : p .states ≤
   unfolding leastCostWith
   leasts-alike picks = least-by-marks p picks _ _ (p .states) (walks-alike picks .marks)
 
-  rounds-alike : (e : ℕ) (x : Machine) → checkedRoundWith m p e x ≡ checkedRoundWith m′ p e x
-  unfolding checkedRoundWith
+  rounds-alike : (e : ℕ) (x : Machine) → roundWith m p e x ≡ roundWith m′ p e x
+  unfolding roundWith
   rounds-alike e x = rw (walks-alike (byState (x .picks)) .list)
 
   runs-alike
       : (e budget : ℕ) (going : Bool) (n : ℕ) (x : Machine)
-      → checkedRunFromWith m p e budget going n x ≡ checkedRunFromWith m′ p e budget going n x
-  unfolding checkedRunFromWith
+      → runFromWith m p e budget going n x ≡ runFromWith m′ p e budget going n x
+  unfolding runFromWith
   runs-alike e zero true n x = refl
   runs-alike e zero false n x = refl
   runs-alike e (suc budget) false n x = refl
   runs-alike e (suc budget) true n x =
-      rw (rounds-alike e x) (onwards-same (λ y. runs-alike e budget (y .moved) (suc n) y) (checkedRoundWith m′ p e x))
+      rw (rounds-alike e x) (runs-alike e budget (roundWith m′ p e x .moved) (suc n) (roundWith m′ p e x))
 
-  goes-on-alike
-      : (kind : Kind) (budget : ℕ) (end : Ending)
-      → checkedGoesOnWith m kind p budget end ≡ checkedGoesOnWith m′ kind p budget end
-  unfolding checkedGoesOnWith
+  goes-on-alike : (kind : Kind) (budget : ℕ) (end : Ending) → goesOnWith m kind p budget end ≡ goesOnWith m′ kind p budget end
+  unfolding goesOnWith
   goes-on-alike Plain budget end = refl
   goes-on-alike Finishing budget (Ending.spent n x) = refl
   goes-on-alike Finishing budget (Ending.solved n x) = runs-alike 1 (budget - n) true n x
 
-  solutions-of-alike : (lent : List ℕ) (c : Checked Ending) → solutionOfWith m p lent c ≡ solutionOfWith m′ p lent c
+  solutions-of-alike : (lent : List ℕ) (end : Ending) → solutionOfWith m p lent end ≡ solutionOfWith m′ p lent end
   unfolding solutionOfWith
-  solutions-of-alike lent (fine (Ending.solved n x)) = rw (leasts-alike (byState (x .picks)))
-  solutions-of-alike lent (fine (Ending.spent n x)) = refl
-  solutions-of-alike lent (over r x) = refl
+  solutions-of-alike lent (Ending.solved n x) = rw (leasts-alike (byState (x .picks)))
+  solutions-of-alike lent (Ending.spent n x) = refl
 
   whole-runs-alike
       : (kind : Kind) (budget : ℕ) (values picks remembered : List ℕ)
-      → checkedRunOfWith m kind p budget values picks remembered ≡ checkedRunOfWith m′ kind p budget values picks remembered
+      → runOfWith m kind p budget values picks remembered ≡ runOfWith m′ kind p budget values picks remembered
   whole-runs-alike kind budget values picks remembered =
-      let start = machineStart p values picks remembered in
-      rw (runs-alike (p .tolerance) budget true 0 start)
-      (onwards-same (goes-on-alike kind budget) (checkedRunFromWith m′ p (p .tolerance) budget true 0 start))
+      rw (runs-alike (p .tolerance) budget true 0 (machineStart p values picks remembered)) (goes-on-alike kind budget _)
 
   pub solutions-alike
       : (v : Verdict) (kind : Kind) (budget : ℕ) (t : Tables)
@@ -192,7 +182,7 @@ module _ (p : Problem) (formed : WellFormed p) {m m′ : ℕ} (h : p .states ≤
   unfolding solutionOnWith
   solutions-alike passes kind budget t =
       ap (solutionOfWith m p (t .walk-list)) (whole-runs-alike kind budget (t .values) (t .picks) (t .remembered))
-      ∙ solutions-of-alike (t .walk-list) (checkedRunOfWith m′ kind p budget (t .values) (t .picks) (t .remembered))
+      ∙ solutions-of-alike (t .walk-list) (runOfWith m′ kind p budget (t .values) (t .picks) (t .remembered))
   solutions-alike (fails q i) kind budget t = refl
 
   -- a search among the open states

@@ -1,4 +1,4 @@
--- Questions 1 to 11 carry the numbers 1 to 11 and 24, and questions 1 to 13 the numbers 1 to 13 and 24: no other number comes from them.
+-- Questions 1 to 11 carry the numbers 1 to 11 and 24: no other number comes from them.
 -- A chain of questions has no later number than its parts; each part says its number.
 use mathlib.Core.Path.{_≡_}
 use Prim.Native.Nat.{ℕ, _+_, _≤_, _<_}
@@ -9,7 +9,6 @@ use lib.Dec.{leb, ltb, eqb}
 use lib.ListN.{length}
 use Rattle.model.specs.Bytes.{u16At}
 use Rattle.model.specs.Limits.{minSettings, maxSettings, weightTotals, maxStates, maxRows, maxOutcomes, maxTolerance, maxPenalty}
-use Rattle.model.specs.Limits.{maxBudget}
 use Rattle.model.specs.Problem.{Problem, giveUpCost}
 use Rattle.model.specs.Search.{first, sumTo, oneOf}
 use Rattle.model.specs.Sections.{sectionEnd, statesAt, rowsAt, outcomesAt, fileEnd, goalByteOf, kindOf, outcomeCountOf}
@@ -19,45 +18,39 @@ use Rattle.model.specs.Questions.{layoutQuestions, layoutQuestionsWithin}
 use Rattle.model.specs.Questions.{settingQuestions, stateObeys, stateQuestion, startQuestion, rowNumberQuestion, rowObeys, rowQuestion}
 use Rattle.model.specs.Questions.{outcomeNumberQuestion, rowSound, outcomeQuestion, undercutState, estimateQuestion, itemQuestions}
 use Rattle.model.specs.Questions.{fileQuestions, fileQuestionsWithin}
-use Rattle.model.specs.Solution.{Tables, solveQuestions}
 
--- a verdict that passes, or fails under a number of at most `last` or under 24, which belongs to 4
-pub data Early (last : ℕ) : Verdict → Type 0 where
-  passed : Early last passes
-  failed : {q i : ℕ} → q ≤ last → Early last (fails q i)
-  no-total : {i : ℕ} → Early last (fails 24 i)
+-- a verdict that passes, or fails under a number of at most 11 or under 24, which belongs to 4
+pub data Early : Verdict → Type 0 where
+  passed : Early passes
+  failed : {q i : ℕ} → q ≤ 11 → Early (fails q i)
+  no-total : {i : ℕ} → Early (fails 24 i)
 
 -- a later number is 24
-pub early-number : {last : ℕ} {v : Verdict} → Early last v → (q i : ℕ) → v ≡ fails q i → last < q → q ≡ 24
+pub early-number : {v : Verdict} → Early v → (q i : ℕ) → v ≡ fails q i → 11 < q → q ≡ 24
 early-number passed q i e late = let z : _≡_ {A = ℕ} 0 1 = cc in absurd (omega arith)
 early-number (failed {q = n} l) q i e late = let same : n ≡ q = cc in absurd (omega arith)
 early-number no-total q i e late = cc
 
-later : {last more : ℕ} {v : Verdict} → last ≤ more → Early last v → Early more v
-later h passed = passed
-later h (failed {q = q} l) = failed {q = q} (omega arith)
-later h no-total = no-total
-
-early-then : {last : ℕ} {v w : Verdict} → Early last v → Early last w → Early last (v then w)
+early-then : {v w : Verdict} → Early v → Early w → Early (v then w)
 early-then passed b = b
 early-then (failed l) b = failed l
 early-then no-total b = no-total
 
-early-ask : {last : ℕ} (q i : ℕ) (b : Bool) → q ≤ last → Early last (ask q i b)
+early-ask : (q i : ℕ) (b : Bool) → q ≤ 11 → Early (ask q i b)
 early-ask q i true l = passed
 early-ask q i false l = failed l
 
-early-each : {last : ℕ} (q n : ℕ) (ok : ℕ → Bool) → q ≤ last → Early last (askEach q n ok)
+early-each : (q n : ℕ) (ok : ℕ → Bool) → q ≤ 11 → Early (askEach q n ok)
 early-each q n ok = early-ask q (first ok 0 n) (leb n (first ok 0 n))
 
-early-section : (place i size low high : ℕ) (f : List ℕ) → Early 11 (sectionQuestions place i size low high f)
+early-section : (place i size low high : ℕ) (f : List ℕ) → Early (sectionQuestions place i size low high f)
 unfolding sectionQuestions
 early-section place i size low high f =
     early-then (early-ask 1 place (leb (i + 2) (length f)) (omega arith))
     (early-then (early-ask 2 place (between low high (u16At f i)) (omega arith))
     (early-ask 1 place (leb (sectionEnd size f i) (length f)) (omega arith)))
 
-early-layout : (f : List ℕ) → Early 11 (layoutQuestions f)
+early-layout : (f : List ℕ) → Early (layoutQuestions f)
 unfolding layoutQuestionsWithin endQuestion
 early-layout f =
     early-then (early-section 0 0 4 minSettings maxSettings f)
@@ -66,11 +59,11 @@ early-layout f =
     (early-then (early-section 3 (outcomesAt f) 4 0 maxOutcomes f)
     (early-ask 3 3 (eqb (fileEnd f) (length f)) (omega arith)))))
 
-early-total : (i : ℕ) (b : Bool) → Early 11 (ask 24 i b)
+early-total : (i : ℕ) (b : Bool) → Early (ask 24 i b)
 early-total i true = passed
 early-total i false = no-total
 
-early-settings : (p : Problem) → Early 11 (settingQuestions p)
+early-settings : (p : Problem) → Early (settingQuestions p)
 unfolding settingQuestions
 early-settings p =
     early-then (early-ask 4 0 (ltb (p .start) (p .states)) (omega arith))
@@ -78,7 +71,7 @@ early-settings p =
     (early-then (early-ask 4 2 (between 1 maxPenalty (p .penalty)) (omega arith))
     (early-total 3 (oneOf (p .total) weightTotals))))
 
-early-items : (f : List ℕ) (p : Problem) → Early 11 (itemQuestions f p)
+early-items : (f : List ℕ) (p : Problem) → Early (itemQuestions f p)
 unfolding itemQuestions stateQuestion startQuestion rowNumberQuestion rowQuestion outcomeNumberQuestion outcomeQuestion estimateQuestion
 early-items f p =
     early-then (early-each 5 (p .states) (λ s. stateObeys (giveUpCost p) (p .estimate s) (p .rowCount s) (goalByteOf f s)) (omega arith))
@@ -91,19 +84,6 @@ early-items f p =
     (early-ask 11 _ (leb (p .states) (undercutState p (p .estimate))) (omega arith)))))))
 
 -- questions 1 to 11 in order
-pub early-file : (f : List ℕ) → Early 11 (fileQuestions f)
+pub early-file : (f : List ℕ) → Early (fileQuestions f)
 unfolding fileQuestionsWithin
 early-file f = early-then (early-layout f) (early-then (early-settings (problemOf f)) (early-items f (problemOf f)))
-
-early-solve : (p : Problem) (budget : ℕ) (t : Tables) → Early 13 (solveQuestions p budget t)
-unfolding solveQuestions
-early-solve p budget t =
-    early-then (early-ask 12 0 (leb (p .states) (length (t .values))) (omega arith))
-    (early-then (early-ask 12 1 (leb (p .states) (length (t .picks))) (omega arith))
-    (early-then (early-ask 12 2 (leb (p .rows) (length (t .remembered))) (omega arith))
-    (early-then (early-ask 12 3 (leb (p .states) (length (t .walk-list))) (omega arith))
-    (early-ask 13 0 (leb budget maxBudget) (omega arith)))))
-
--- questions 1 to 13 in order
-pub early-questions : (f : List ℕ) (budget : ℕ) (t : Tables) → Early 13 (fileQuestions f then solveQuestions (problemOf f) budget t)
-early-questions f budget t = early-then (later (omega arith) (early-file f)) (early-solve (problemOf f) budget t)

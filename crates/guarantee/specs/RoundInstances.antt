@@ -8,7 +8,7 @@ use mathlib.Core.List.{[], _∷_}
 use lib.ListN.{getD, replicate}
 use borrow.Author.Tests.{leb-true}
 use Rattle.model.specs.Bytes.{u16At, u32At}
-use Rattle.model.specs.Limits.{planRounds, noPick}
+use Rattle.model.specs.Limits.{planRounds, valueBound, noPick}
 use Rattle.model.specs.CaseFiles.{fileP, penaltyP, tied, tiedLater, picksP, lent, planned}
 use Rattle.model.specs.Computed.{requested-hold}
 use Rattle.model.specs.Problem.{giveUpCost, ownRow}
@@ -26,7 +26,7 @@ use Rattle.model.specs.Following.{moved}
 use Rattle.guarantee.specs.Graphs.{clear-entry}
 use Rattle.guarantee.specs.Sound.{Allowed}
 use Rattle.guarantee.specs.Backups.{machineOf}
-use Rattle.guarantee.specs.Guarantee.{plan-gives-up-when-cheaper, Met, starts, walks, backs-up, built-on-bellman}
+use Rattle.guarantee.specs.Guarantee.{plan-gives-up-when-cheaper, Met, starts, walks, backs-up, row-values-fit, built-on-bellman}
 use Rattle.guarantee.specs.Guarantee.{gives-up-when-cheaper, row-beats-giving-up, earlier-pick-wins, row-order-wins}
 use Rattle.guarantee.specs.Guarantee.{remembered-low, skipped-not-picked, values-rise, values-high, picks-held}
 use Rattle.guarantee.specs.Guarantee.{goals-unpicked, marks-are-reached, list-is-open-reached, list-holds-once}
@@ -50,10 +50,15 @@ p-goes-on-met = run-goes-on-met problemP (lent 3) 999 2 true 0 _ starts
 pub p-bellman : scanOf problemP 0 firstP .best ≡ bellman problemP (byState (firstP .values)) 0
 p-bellman = built-on-bellman fileP planRounds (lent 3) p-passes (p-lent planRounds (omega arith)) p-met
 
--- what is remembered of row 0 there; a scan by a memory of zeros; the start's value after the backup; what the tables hold
+-- the value of row 0 there, and what is remembered of it; a scan by a memory of zeros; the start's value after the backup; what the tables
+-- hold
 
 p-rounds-go : solveQuestions problemP planRounds (lent 3) ≡ passes
 p-rounds-go = p-lent planRounds (omega arith)
+
+pub p-row-fits : rowValue problemP (byState (firstP .values)) 0 < valueBound
+unfolding problemOf statesAt rowsAt u16At
+p-row-fits = row-values-fit fileP planRounds (lent 3) p-passes p-rounds-go p-met 0 (leb-true _ _ refl)
 
 pub p-remembered : getD (firstP .remembered) 0 0 ≤ rowValue problemP (byState (firstP .values)) 0
 unfolding problemOf statesAt rowsAt u16At

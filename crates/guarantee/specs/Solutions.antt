@@ -1,5 +1,5 @@
--- Solving a file, told by its answer and the tables that are left: refusals leave the tables as lent, number 14 never comes, solved is
--- accepted. With questions 1 to 13 answered yes the machine is sound from the start, so the checked run is the run of Rounds.antt.
+-- Solving a file, told by its answer and the tables that are left: refusals leave the tables as lent, solved is accepted.
+-- With questions 1 to 13 answered yes the machine is sound from the start, and what is handed back is that of its run.
 use mathlib.Core.Path.{_≡_, refl, sym, _∙_, ap}
 use Prim.Native.Nat.{ℕ, _*_, _≤_, _<_}
 use native.Mathlib.Nat.{le-trans}
@@ -21,18 +21,16 @@ use Rattle.model.specs.Carried.{counts}
 use Rattle.model.specs.declared.Counts.{Counts}
 use Rattle.model.specs.declared.Kind.{Kind}
 use Rattle.model.specs.declared.Kind.the-variants.{Plain, Finishing}
-use Rattle.model.specs.Solution.{fine, Tables, Answer, solved, spent, refused, tablesOf, solutionOf, solutionOfWith}
+use Rattle.model.specs.Solution.{Tables, Answer, solved, spent, refused, tablesOf, solutionOf, solutionOfWith}
 use Rattle.model.specs.Solution.{solveQuestions, solutionOnWith, solution, solutionWithin}
 use Rattle.model.specs.Answers.{answerCarries}
 use Rattle.model.specs.Audit.{accepted, audit}
 use Rattle.model.specs.Promises.{roundsEnough, planTables}
 use Rattle.guarantee.specs.Searches.{then-first, then-next, ask-yes}
-use Rattle.guarantee.specs.Numbers.{early-questions, early-number}
 use Rattle.guarantee.specs.WellFormed.{well-formed}
 use Rattle.guarantee.specs.Sound.{Sound, start-sound}
 use Rattle.guarantee.specs.Backups.{roundsOf, machineOf, whole-run-keeps, whole-run-rounds, whole-run-spent}
 use Rattle.guarantee.specs.Evaluations.{round-count}
-use Rattle.guarantee.specs.Checks.{checked-run-of}
 use Rattle.guarantee.specs.Ending.{solve-ends}
 use Rattle.guarantee.specs.Solved.{Final, lastTolerance, last-narrow, run-final, final-passes-audit, final-gives-up}
 
@@ -50,7 +48,7 @@ pub record SolvedWithin (bound : ℕ) (a : Answer) : Type 0 where
   pub ends : a ≡ solved counts
   pub within : counts .rounds ≤ bound
 
--- the run of a file with a budget from lent tables, of either kind, with no check of question 14
+-- the run of a file with a budget from lent tables, of either kind
 abbrev pub runWith : Kind → List ℕ → ℕ → Tables → Ending
 runWith kind f budget t = runOf kind (problemOf f) budget (t .values) (t .picks) (t .remembered)
 
@@ -80,7 +78,7 @@ pub data Told (kind : Kind) (f : List ℕ) (budget : ℕ) (t : Tables) : Type 0 
       → Told kind f budget t
   ran
       : fileQuestions f ≡ passes → solveQuestions (problemOf f) budget t ≡ passes
-      → solution kind f budget t ≡ solutionOf (problemOf f) (t .walk-list) (fine (runWith kind f budget t)) → Told kind f budget t
+      → solution kind f budget t ≡ solutionOf (problemOf f) (t .walk-list) (runWith kind f budget t) → Told kind f budget t
 
 pub lent-long : (p : Problem) (budget : ℕ) (t : Tables) → solveQuestions p budget t ≡ passes → Lent p budget t
 unfolding solveQuestions
@@ -137,14 +135,10 @@ module _ (f : List ℕ) (budget : ℕ) (t : Tables) (file : fileQuestions f ≡ 
       start-sound (problemOf f) (well-formed f file) (t .values) (t .picks) (t .remembered) (long .values-long) (long .picks-long)
       (long .remembered-long)
 
-  -- the solution is that of the run with no check
-  pub solution-run : (kind : Kind) → solution kind f budget t ≡ solutionOf (problemOf f) (t .walk-list) (fine (runWith kind f budget t))
+  -- the solution is that of the run
+  pub solution-run : (kind : Kind) → solution kind f budget t ≡ solutionOf (problemOf f) (t .walk-list) (runWith kind f budget t)
   unfolding solutionWithin solutionOnWith
-  solution-run kind =
-      let p = problemOf f in
-      rw (file, lent)
-      (ap (solutionOf p (t .walk-list))
-      (checked-run-of p (well-formed f file) kind budget (t .values) (t .picks) (t .remembered) lent-sound))
+  solution-run kind = rw (file, lent) refl
 
   -- "given at least (A + 1) × (n + 1) rounds ends solved", or as many as a finishing run has
   pub solution-ends
@@ -185,7 +179,7 @@ module _ (kind : Kind) (f : List ℕ) (budget : ℕ) (t : Tables) where
   unfolding solutionOfWith
   refused-by q i h = go told
     where
-      on : (run : Ending) → runWith kind f budget t ≡ run → solutionOf (problemOf f) (t .walk-list) (fine run) .answer ≡ refused q i
+      on : (run : Ending) → runWith kind f budget t ≡ run → solutionOf (problemOf f) (t .walk-list) run .answer ≡ refused q i
           → RefusedBy kind f budget t q i
       on (Ending.solved n m) e h = absurd (true≢false (cc))
       on (Ending.spent n m) e h = absurd (true≢false (cc))
@@ -202,7 +196,7 @@ module _ (kind : Kind) (f : List ℕ) (budget : ℕ) (t : Tables) where
   solved-by c h = go told
     where
       on : fileQuestions f ≡ passes → solveQuestions (problemOf f) budget t ≡ passes → (run : Ending) → runWith kind f budget t ≡ run
-          → solution kind f budget t ≡ solutionOf (problemOf f) (t .walk-list) (fine run) → SolvedBy kind f budget t c
+          → solution kind f budget t ≡ solutionOf (problemOf f) (t .walk-list) run → SolvedBy kind f budget t c
       on file lent (Ending.solved k m) run is =
           let these = counts k (m .evaluations) (leastCost (problemOf f) (byState (m .picks))) in
           let said : solved these ≡ solved c = sym (ap (λ x. x .answer) is) ∙ h in
@@ -231,7 +225,7 @@ module _ (kind : Kind) (f : List ℕ) (budget : ℕ) (t : Tables) where
   unfolding solutionOfWith
   spent-budget c h = go told
     where
-      on : (run : Ending) → runWith kind f budget t ≡ run → solutionOf (problemOf f) (t .walk-list) (fine run) .answer ≡ spent c
+      on : (run : Ending) → runWith kind f budget t ≡ run → solutionOf (problemOf f) (t .walk-list) run .answer ≡ spent c
           → c .rounds ≡ budget
       on (Ending.solved k m) run h = absurd (true≢false (cc))
       on (Ending.spent k m) run h =
@@ -257,7 +251,7 @@ module _ (kind : Kind) (f : List ℕ) (budget : ℕ) (t : Tables) where
       Few n m = m .evaluations ≤ maxRows * n
 
       on : (run : Ending) → Few (roundsOf run) (machineOf run) → roundsOf run ≤ maxBudget
-          → answerCarries (solutionOf p (t .walk-list) (fine run) .answer) .counts .evaluations < valueBound * valueBound
+          → answerCarries (solutionOf p (t .walk-list) run .answer) .counts .evaluations < valueBound * valueBound
       on (Ending.solved n m) few h = omega arith
       on (Ending.spent n m) few h = omega arith
 
@@ -272,10 +266,6 @@ module _ (kind : Kind) (f : List ℕ) (budget : ℕ) (t : Tables) where
           (on (runWith kind f budget t) few
           (le-trans (whole-run-rounds kind p budget (t .values) (t .picks) (t .remembered))
           (lent-long p budget t lent .budget-high)))
-
-  -- number 14 never comes
-  pub never-fourteen : (r : ℕ) → solution kind f budget t .answer ≡ refused 14 r → ⊥
-  never-fourteen r h = omega (arith, early-number (early-questions f budget t) 14 r (refused-by 14 r h .failed) (omega arith))
 
   -- and its machine is final
   pub solved-ends : {c : Counts} (by : SolvedBy kind f budget t c) → Final (problemOf f) (lastTolerance kind (problemOf f)) (by .machine)
@@ -309,9 +299,9 @@ pub spent-the-same
 unfolding solutionOfWith goesOnWith
 spent-the-same f budget t c h = go (told Plain f budget t)
   where
-    on : (run : Ending) → solutionOf (problemOf f) (t .walk-list) (fine run) .answer ≡ spent c
-        → solutionOf (problemOf f) (t .walk-list) (fine (goesOn Finishing (problemOf f) budget run))
-        ≡ solutionOf (problemOf f) (t .walk-list) (fine run)
+    on : (run : Ending) → solutionOf (problemOf f) (t .walk-list) run .answer ≡ spent c
+        → solutionOf (problemOf f) (t .walk-list) (goesOn Finishing (problemOf f) budget run)
+        ≡ solutionOf (problemOf f) (t .walk-list) run
     on (Ending.solved k m) h = absurd (true≢false (cc))
     on (Ending.spent k m) h = refl
 

@@ -80,7 +80,7 @@ module _ (p : Problem) (formed : WellFormed p) where
       same : (r : ℕ) → r < p .rows → rowValue p (byState (fillTo (p .estimate) values (p .states))) r ≡ rowValue p (p .estimate) r
       same r l = rowValue-same-states p formed _ _ at r l
 
-  -- number 14 never comes: in a sound machine every row value fits in 32 bits
+  -- in a sound machine every row value fits in 32 bits
   pub evaluation-fits : (m : Machine) → Sound p m → (r : ℕ) → r < p .rows → rowValue p (byState (m .values)) r < valueBound
   evaluation-fits m sound = rowValue-fits p formed (byState (m .values)) (sound .high)
 

@@ -140,7 +140,7 @@ module _ (p : Problem) (formed : WellFormed p) where
   rowValue-bound-states v high r l =
       rowValue-bound p r v (giveUpCost p) (formed .weights r l) (λ o i. high (o .successor) (formed .successor-state r l o i))
 
-  -- number 14 never comes: a row value under a table of values at most 1000 × D fits in 32 bits
+  -- a row value under a table of values at most 1000 × D fits in 32 bits
   pub rowValue-fits : (v : ℕ → ℕ) → ((s : ℕ) → s < p .states → v s ≤ giveUpCost p)
       → (r : ℕ) → r < p .rows → rowValue p v r < valueBound
   rowValue-fits v high r l =

@@ -82,6 +82,10 @@ tiedLater =
     settings 200 0
     (3 ∷ 0 ∷ state 2 (state 1 (goal (3 ∷ 0 ∷ row 200 (row 100 (row 100 (3 ∷ 0 ∷ to 2 (to 1 (to 2 [])))))))))
 
+-- D 400,000, which is 6 × 65,536 + 26 × 256 + 128: the row of state 0, 65,535 s, leads to state 1, which has none
+abbrev pub dearest : List ℕ
+dearest = set (settings 128 26 (2 ∷ 0 ∷ state 1 (state 0 (1 ∷ 0 ∷ 0 ∷ 1 ∷ 255 ∷ 255 ∷ 1 ∷ 0 ∷ to 1 [])))) 12 6
+
 -- D 5,000: the row of state 0, 1 s, leads back to it with weight 333 and to the goal with 667, 1 × 256 + 77 and 2 × 256 + 155
 abbrev pub rounding : List ℕ
 rounding =

@@ -10,12 +10,9 @@ use Rattle.model.specs.Questions.{stateQuestion, startQuestion, rowNumbe
 use Rattle.model.specs.Questions.{outcomeNumberQuestion, outcomesObey, outcomeQuestion, undercutRow, undercutState}
 use Rattle.model.specs.Questions.{estimateQuestion, itemQuestions, fileQuestionsWithin}
 use Rattle.model.specs.Walk.{walkWith, visitState, visitOutcomes, next, leastCostWith, leastTo, pickCost}
-use Rattle.model.specs.Rounds.{beats, evaluateOn, settle, raiseOn, machineStart, fillTo, listTable}
-use Rattle.model.specs.Solution.{solutionWithin, solutionOnWith, solutionOfWith, solveQuestions, checkedGoesOnWith}
-use Rattle.model.specs.Solution.{checkedRunFromWith}
-use Rattle.model.specs.Solution.{checkedRoundWith, checkedBackups, checkedBackup, checkedScan}
-use Rattle.model.specs.Rounds.{takenIf, othersFrom, traverse}
-use Rattle.model.specs.Solution.{checkedConsider, checkedConsiderOn, checkedEvaluate}
+use Rattle.model.specs.Rounds.{beats, evaluateOn, considerOn, consider, takenIf, othersFrom, traverse, raiseOn, settle}
+use Rattle.model.specs.Rounds.{backup, backups, roundWith, runFromWith, goesOnWith, machineStart, fillTo, listTable}
+use Rattle.model.specs.Solution.{solutionWithin, solutionOnWith, solutionOfWith, solveQuestions}
 use Rattle.model.specs.Audit.{auditWithin, problemAuditWith, tableQuestionsWith, unboundedState, strayState, slackState}
 use Rattle.model.specs.Audit.{pickValue}
 use Rattle.model.specs.Following.{leadsTo, moveSeconds, wayTo, waySeconds, hasOutcome, reportQuestions, openingWithin}
@@ -39,9 +36,8 @@ unfolding fileQuestionsWithin layoutQuestionsWithin sectionQuestions endQuestion
     stateObeys startQuestion rowNumberQuestion rowQuestion rowObeys costObeys outcomeNumberQuestion outcomeQuestion outcomesObey
     estimateQuestion undercutState undercutRow first sumTo rowValue rowRemainder pickRemainder weightedSum totalWeight problemOf
     statesAt rowsAt outcomesAt fileEnd outcomesFrom atTolerance lengthSeconds rateSeconds secondsOn u16At u32At solutionWithin
-    solutionOnWith solutionOfWith solveQuestions checkedGoesOnWith checkedRunFromWith checkedRoundWith checkedBackups checkedBackup
-    checkedScan traverse othersFrom takenIf checkedConsider checkedConsiderOn checkedEvaluate beats evaluateOn settle raiseOn
-    machineStart fillTo listTable walkWith visitState visitOutcomes next leastCostWith leastTo pickCost auditWithin problemAuditWith
+    solutionOnWith solutionOfWith solveQuestions goesOnWith runFromWith roundWith backups backup traverse othersFrom takenIf consider
+    considerOn beats evaluateOn settle raiseOn machineStart fillTo listTable walkWith visitState visitOutcomes next leastCostWith leastTo pickCost auditWithin problemAuditWith
     tableQuestionsWith unboundedState strayState slackState pickValue openingWithin reportWithin reports acceptedOf reportQuestions
     moved leadsTo moveSeconds hasOutcome wayTo waySeconds planText answerLine stateLines stateLine listed runStates decimal decimalFrom
     auditLine numberBytes tableBytes listTo entries16 rateLine rateLines partsTo settingNumber settingBytes stateBytes rowBytes
@@ -55,7 +51,7 @@ computed = (
       and refl and refl and refl and refl and refl and refl and refl and refl
       and refl and refl and refl and refl and refl and refl and refl and refl and refl
       and refl and refl and refl and refl and refl
-      and refl and refl and refl and refl and tt,
+      and refl and refl and refl and refl and refl and refl and tt,
   refl and refl and refl and refl and refl and refl and refl and refl and tt,
   refl and refl and refl and refl and refl and refl and refl and refl and refl and refl and refl and refl
       and refl and refl and refl and refl and refl and refl and tt,

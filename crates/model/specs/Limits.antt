@@ -104,7 +104,7 @@ planRounds = 1000000
 abbrev pub planHolds : ℕ
 planHolds = 65536
 
--- "does the row value fit in 32 bits?"
+-- a number fits in 32 bits where it is below this
 abbrev pub valueBound : ℕ
 valueBound = 4294967296
 

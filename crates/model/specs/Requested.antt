@@ -24,7 +24,7 @@ use Rattle.model.specs.Sheets.{rateLines}
 use Rattle.model.specs.CaseFiles.{fileP}
 use Rattle.model.specs.CaseFiles.{rateP, penaltyP, tied, tiedTwice}
 use Rattle.model.specs.CaseFiles.{tiedLater, rounding, coarse, clogs, partnerP, formP, lent, planned, printed, valuesP}
-use Rattle.model.specs.CaseFiles.{finishing, finished}
+use Rattle.model.specs.CaseFiles.{dearest, finishing, finished}
 use Rattle.model.specs.CaseFiles.{picksP, gives, valuesGives, at, two, remainderOf}
 
 -- the cases of document 02's requests
@@ -74,6 +74,10 @@ requested =
     ∷ (lengthSeconds 500 1000 ≡ 300)
     ∷ (lengthSeconds 550 999 ≡ 331)
     ∷ (rateLines (lengthSeconds 1000) 2 ≡ codes "10 60000\n11 54546\n")
+    -- E10: the largest row value that there is, 65,535,000 + 400,000,000, once state 1 has risen to giving up. It is evaluated, remembered and
+    -- not picked
+    ∷ (printed dearest 2 ≡ codes "solved 3 2 400000000\n0 400000000 give 0\n")
+    ∷ (planned dearest 2 .tables .remembered ≡ 465535000 ∷ 7 ∷ [])
     ∷ []
 
 -- and those of E6: P and what a partner made of it have one set form, of 66 bytes, which is its own. An output of 65 bytes is too short and

@@ -71,9 +71,6 @@ pub const LONGEST_FILE: usize = 8
     + 4 * MAX_ROWS
     + 4 * MAX_OUTCOMES;
 
-// A row value at least this does not fit in 32 bits.
-pub const VALUE_BOUND: u64 = 4294967296;
-
 // The answer to questions 1 to 11 about a file.
 pub enum FileAnswer {
     Passed,
@@ -93,7 +90,7 @@ pub struct Counts {
     pub least: u32,
 }
 
-// The answer of a solved file: questions 1 to 14, or how the run ended.
+// The answer of a solved file: questions 1 to 13, or how the run ended.
 pub enum SolveAnswer {
     Solved { counts: Counts },
     Spent { counts: Counts },

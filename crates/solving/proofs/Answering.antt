@@ -1,5 +1,5 @@
 -- From the questions to the answer: what questions 1 to 13 give, how the tables begin, and that a run's end is the solution.
--- The check of question 14 never says no, so the solution is that of the run without it.
+-- The run in the tables as they begin is the model's, since these are the machine as it starts.
 use mathlib.Core.Path.{_≡_, refl, sym, _∙_, ap, subst}
 use Prim.Native.Nat.{ℕ, _≤_, _<_}
 use native.Mathlib.Omega.{arith}
@@ -16,7 +16,7 @@ use Rattle.model.specs.Sections.{problemOf}
 use Rattle.model.specs.Value.{rowValue, byState}
 use Rattle.model.specs.Rounds.{Machine, runFrom, goesOn, runOf, fillTo, machineStart, listTable}
 use Rattle.model.specs.declared.Kind.{Kind}
-use Rattle.model.specs.Solution.{Tables, tables, fine, solutionOf, solutionOfWith, solveQuestions, solution}
+use Rattle.model.specs.Solution.{Tables, tables, solutionOf, solutionOfWith, solveQuestions, solution}
 use Rattle.guarantee.specs.WellFormed.{WellFormed}
 use Rattle.guarantee.specs.WellFormed.{well-formed}
 use Rattle.guarantee.specs.Values.{rowValue-same-states}
@@ -117,11 +117,10 @@ module _ {f index : List ℕ} {budget : ℕ} {t : Tables} {states rows : ℕ} {v
         ∙ ap (λ x. goesOn kind p budget (runFrom p x budget true 0 (machine values′ picks′ remembered′ [] 0 true))) (sym tolerance)
         ∙ ran .ends
 
-    solution-is
-        : solution kind f budget t ≡ solutionOf (problemOf f) (t .walk-list) (fine (endedAs (d .solved) (d .counts .rounds) last))
+    solution-is : solution kind f budget t ≡ solutionOf (problemOf f) (t .walk-list) (endedAs (d .solved) (d .counts .rounds) last)
     solution-is =
         solution-run f budget t (h .solvable .file-passes) (h .solvable .tables-pass) kind
-        ∙ ap (λ r. solutionOf (problemOf f) (t .walk-list) (fine r)) run-is
+        ∙ ap (solutionOf (problemOf f) (t .walk-list)) run-is
 
     pub run-leaves
         : {carried : Carried} {list‴ : List ℕ} → list‴ ≡ listTable states (take (d .listed) (t″ .walk-list)) (t .walk-list)
@@ -136,7 +135,7 @@ module _ {f index : List ℕ} {budget : ℕ} {t : Tables} {states rows : ℕ} {v
 
         go : (b : Bool) → d .solved ≡ b → carried ≡ runCarries b (d .counts)
             → Leaves carried (tables (t″ .values) (t″ .picks) (t″ .remembered) list‴)
-            (solutionOf (problemOf f) (t .walk-list) (fine (endedAs b (d .counts .rounds) last)))
+            (solutionOf (problemOf f) (t .walk-list) (endedAs b (d .counts .rounds) last))
         go true q c = record { answer = c ∙ rw (ran .least q) refl; left = rw same-list refl }
         go false q c = record { answer = c ∙ rw (ran .no-least q) refl; left = rw same-list refl }
 

@@ -102,17 +102,14 @@ module _ {f index : List ℕ} {t : Tables} (h : Runnable f index t) where
         : (e count : ℕ) (d : RoundDone) {values′ picks′ remembered′ : List ℕ} → d .listed ≡ r
         → machine values′ picks′ remembered′ (take r list′) (d .count) (d .moved) ≡ backed e count
         → (d .moved ≡ false → d .least ≡ leastCost p (byState picks′)) → (d .moved ≡ true → d .least ≡ 0)
-        → d .over ≡ false → d .row ≡ 0
         → Rounded p e t count (tables values′ picks′ remembered′ list′) d
-    round-done e count d listed done least no-least fine no-row =
+    round-done e count d listed done least no-least =
         record {
           same = λ l b. rw listed (done ∙ round-left e count l b);
           least = least;
           no-least = no-least;
           few = rw listed (w .few);
           list-long = w .list-long;
-          fine = fine;
-          no-row = no-row;
         }
 
 -- the loop over rounds: what is left of the run, of this part and of the other where it is to go on, gives w

@@ -40,7 +40,7 @@ pub record Given (p : Problem) (n cost : ℕ) : Type 0 where
   pub give : cost ≡ giveUpCost p
 
 -- a round done: the tables, the first `listed` entries of the walk list and the counts are those of the model's round;
--- where nothing moved C is that of the picks, else 0; no value was too large; the list still has an entry for each state
+-- where nothing moved C is that of the picks, else 0; the list still has an entry for each state
 pub record Rounded (p : Problem) (e : ℕ) (t : Tables) (count : ℕ) (t′ : Tables) (r : RoundDone) : Type 0 where
   pub same : (l : List ℕ) (b : Bool)
       → machineWith t′ (take (r .listed) (t′ .walk-list)) (r .count) (r .moved) ≡ round p e (machineWith t l count b)
@@ -48,8 +48,6 @@ pub record Rounded (p : Problem) (e : ℕ) (t : Tables) (count : ℕ) (t′ : Ta
   pub no-least : r .moved ≡ true → r .least ≡ 0
   pub few : r .listed ≤ p .states
   pub list-long : p .states ≤ length (t′ .walk-list)
-  pub fine : r .over ≡ false
-  pub no-row : r .row ≡ 0
 
 -- the kind of a run that is to go on after its first quiet round, or not
 abbrev pub goingOn : Bool → Kind
@@ -57,7 +55,7 @@ goingOn true = Finishing
 goingOn false = Plain
 
 -- a run done with tolerance e, of either kind: how it ended is how the model's run ends, whether or not something moved last, which its
--- answer does not look at; where it is solved C is that of the picks as they are left, else 0; no value was too large
+-- answer does not look at; where it is solved C is that of the picks as they are left, else 0
 pub record Ran (kind : Kind) (p : Problem) (e budget : ℕ) (t t′ : Tables) (r : Ended) : Type 0 where
   pub moved : Bool
   pub ends
@@ -67,5 +65,3 @@ pub record Ran (kind : Kind) (p : Problem) (e budget : ℕ) (t t′ : Tables) (r
   pub least : r .solved ≡ true → r .counts .least ≡ leastCost p (byState (t′ .picks))
   pub no-least : r .solved ≡ false → r .counts .least ≡ 0
   pub list-long : p .states ≤ length (t′ .walk-list)
-  pub fine : r .over ≡ false
-  pub no-row : r .row ≡ 0

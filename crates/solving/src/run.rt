@@ -1,6 +1,5 @@
 // The round, and the run: rounds until one moves nothing, or the budget is reached.
 // A walk's marks live as long as its round; where the round moves nothing they give C.
-use backing::LOG;
 use backing::backup::Tally;
 use backing::backup::backups;
 use model::Counts;
@@ -23,8 +22,6 @@ ghost use Rattle.solving.specs.Runs.{goingOn, Runnable, Given, Rounded, 
 pub struct RoundDone {
     pub count: u64,
     pub moved: bool,
-    pub over: bool,
-    pub row: u32,
     pub listed: usize,
     pub least: u32,
 }
@@ -38,7 +35,6 @@ fn round(
     picks: &mut [u16],
     remembered: &mut [u32],
     list: &mut [u16; MARKS],
-    log: &mut [u32; LOG],
     states: usize,
     tolerance: u32,
     give: u32,
@@ -59,8 +55,6 @@ fn round(
     let t = Tally {
         count,
         moved: false,
-        over: false,
-        row: 0,
     };
     let b = backups(
         file,
@@ -68,7 +62,6 @@ fn round(
         values,
         picks,
         remembered,
-        log,
         list,
         listed,
         tolerance,
@@ -82,21 +75,16 @@ fn round(
     RoundDone {
         count: b.count,
         moved: b.moved,
-        over: b.over,
-        row: b.row,
         listed,
         least,
     }
 }
 
-// How a run ended: what it counted, the length of the last walk's list, and whether it was solved. Where the value of a row did not fit
-// `over` is set, and that row is `row`, which is 0 otherwise.
+// How a run ended: what it counted, the length of the last walk's list, and whether it was solved.
 pub struct Ended {
     pub counts: Counts,
     pub listed: usize,
     pub solved: bool,
-    pub over: bool,
-    pub row: u32,
 }
 
 // Whether a run is to go on after its first quiet round.
@@ -132,7 +120,6 @@ pub fn run(
         (tables (now (values .entry)) (now (picks .entry)) (now (remembered .entry)) (now (list .entry)))
         (tables (now (values .exit)) (now (picks .exit)) (now (remembered .exit)) (now (list .exit))) r ⌝ }
 {
-    let mut log = [0u32; LOG];
     let mut goes_on = is_finishing(kind);
     let mut e = tolerance;
     let mut rounds = 0;
@@ -146,26 +133,12 @@ pub fn run(
             picks,
             remembered,
             list,
-            &mut log,
             states,
             e,
             give,
             count,
         );
         listed = r.listed;
-        if r.over {
-            return Ended {
-                counts: Counts {
-                    rounds,
-                    evaluations: count,
-                    least: 0,
-                },
-                listed,
-                solved: false,
-                over: true,
-                row: r.row,
-            };
-        }
         rounds += 1;
         count = r.count;
         if !r.moved {
@@ -178,8 +151,6 @@ pub fn run(
                     },
                     listed,
                     solved: true,
-                    over: false,
-                    row: 0,
                 };
             }
             goes_on = false;
@@ -194,7 +165,5 @@ pub fn run(
         },
         listed,
         solved: false,
-        over: false,
-        row: 0,
     }
 }

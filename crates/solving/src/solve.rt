@@ -20,7 +20,6 @@ use reading::settings::settings_of;
 use reading::states::estimates;
 use walking::walk::MARKS;
 ghost use mathlib.Core.Path.{_≡_};
-ghost use mathlib.Core.Bool.{false};
 ghost use Rattle.model.specs.Answers.{solveCarries};
 ghost use Rattle.model.specs.Promises.{Leaves, EndsSolved, PassesAudit, FinishesExact};
 ghost use Rattle.model.specs.Solution.{tables, solution};
@@ -30,15 +29,8 @@ ghost use Rattle.solving.specs.Solvable.{runCarries, Solvable, FileSolve
 
 // The answer of a run that ended.
 fn answer(end: Ended) -> SolveAnswer
-    requires { ⌜ end .over ≡ false ⌝ }
     ensures { λ r. ⌜ solveCarries r ≡ runCarries (end .solved) (end .counts) ⌝ }
 {
-    if end.over {
-        return SolveAnswer::Refused {
-            question: 14,
-            place: end.row,
-        };
-    }
     let counts = end.counts;
     if end.solved {
         SolveAnswer::Solved { counts }
@@ -91,7 +83,7 @@ fn solve_ready(
     answer(end)
 }
 
-// Questions 1 to 14 about a file, a budget and four lent tables, and the run where they let it be. The index is that of the file
+// Questions 1 to 13 about a file, a budget and four lent tables, and the run where they let it be. The index is that of the file
 // where there was a run.
 pub fn solve_file(
     kind: Kind,

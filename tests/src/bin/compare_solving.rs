@@ -10,7 +10,7 @@ use comparisons::audit::{audit_file, Verdict};
 use comparisons::damage::{damaged, one_wrong_each};
 use comparisons::encode::Draft;
 use comparisons::examples::{file_p, one_state, stick, with_total};
-use comparisons::extremes::{at_limits, deep_chain, deepest, sized};
+use comparisons::extremes::{at_limits, dearest_row, deep_chain, deepest, sized};
 use comparisons::finishing::{
     coarse, giving_up, inexact_states, most_rounds, settling_chain, wavering, with_tolerance,
 };
@@ -434,7 +434,7 @@ fn compare_finished(random: &mut Random, comparison: &mut Comparison) {
     }
 }
 
-/// The draft behind the file of a number: the paper's, those at the limits, chains, and made ones.
+/// The draft behind the file of a number: the paper's, those at the limits, chains, the dearest row, and made ones.
 fn draft_of(random: &mut Random, number: u64) -> Draft {
     let with_goal = random.once_in(2);
     let fourth = FOURTHS[number as usize % FOURTHS.len()];
@@ -451,6 +451,7 @@ fn draft_of(random: &mut Random, number: u64) -> Draft {
         28 => deepest(fourth),
         25..=29 => deep_chain(random, deep, 1, with_goal, fourth),
         30..=34 => deep_chain(random, 32, MAX_IN_BYTE, with_goal, fourth),
+        35..=39 => dearest_row(fourth),
         _ => made(random),
     }
 }

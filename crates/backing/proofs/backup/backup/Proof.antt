@@ -1,8 +1,5 @@
--- `backup` is the model's: its scan, the pick stored, and the value raised by the model's test. The scan never meets a value that
--- does not fit, so that nothing is undone.
+-- `backup` is the model's: its scan, the pick stored, and the value raised by the model's test.
 -- Made by `places make` from answers/backup/backup.ans: edit that file, and not this one.
-use mathlib.Core.Path.{refl, sym, _∙_}
-use mathlib.Core.Bool.{true≢false}
 use Rattle.backing.proofs.BackingUp.{backable-scannable, given-room, given-going, given-scan, backup-done}
 use borrow.Author.Needs.{needs}
 use native.Mathlib.Omega.{arith}
@@ -18,62 +15,44 @@ slice-read-prev c = omega (arith, c .before .before .before .before .before .bef
 cast-before : tie.Need-cast-before
 cast-before c = omega (arith, c .before .before .slice-known2 .given (c .before .before .before .before .before .before .args .s))
 
-add-t20 : tie.Need-add-t20
-add-t20 c = omega (arith, c .before .before .before .before .before .before .pre .0 .formed .penalty-high, c .before .before .before .before .before .before .pre .2)
+add-t19 : tie.Need-add-t19
+add-t19 c = omega (arith, c .before .before .before .before .before .before .pre .0 .formed .penalty-high, c .before .before .before .before .before .before .pre .2)
 
 scan-requires : tie.Need-scan-requires
 scan-requires c κs = (
-  backable-scannable (c .before .before .before .before .before .before .before .before .before .pre .0),
-  c .before .before .before .before .before .before .before .before .before .pre .1,
-  given-room (c .before .before .before .before .before .before .before .before .before .pre .0) _ _ (c .before .before .before .before .before .before .before .before .before .pre .2) (c .before .before .before .before .before .before .before .before .before .pre .3),
+  backable-scannable (c .before .before .before .before .before .before .before .before .pre .0),
+  c .before .before .before .before .before .before .before .before .pre .1,
+  given-room (c .before .before .before .before .before .before .before .before .pre .0) _ _ (c .before .before .before .before .before .before .before .before .pre .2) (c .before .before .before .before .before .before .before .before .pre .3),
   given-going _,
 )
-
-undo-requires : tie.Need-undo-requires
-undo-requires c κs = absurd (true≢false (sym (c .before .before .if1 .taken) ∙ (c .before .before .before .before .before .scan .ensures .1 .fine)))
-
-cast-t31 : tie.Need-cast-t31
-cast-t31 c = absurd (true≢false (sym (c .before .before .before .before .before .before .if1 .taken) ∙ (c .before .before .before .before .before .before .before .before .before .scan .ensures .1 .fine)))
-
-same-length : tie.Need-same-length
-same-length c = search needs
-
-same-length-2 : tie.Need-same-length-2
-same-length-2 c = c .before .before .before .undo .kept .0 ∙ (c .before .before .before .before .before .before .before .before .before .scan .kept .1 .1 .1 .0)
-
-returns : tie.Need-returns
-returns c = absurd (true≢false (sym (c .before .before .before .before .before .before .if1 .taken) ∙ (c .before .before .before .before .before .before .before .before .before .scan .ensures .1 .fine)))
 
 mul-picks : tie.Need-mul-picks
 mul-picks c = search needs
 
 slice-write-picks : tie.Need-slice-write-picks
-slice-write-picks c = omega (arith, c .before .before .before .before .before .before .before .before .before .before .before .before .before .pre .0 .sound .picks-length, c .before .before .before .before .before .before .before .before .before .before .before .before .before .pre .1)
+slice-write-picks c = omega (arith, c .before .before .before .before .before .before .before .before .before .before .before .pre .0 .sound .picks-length, c .before .before .before .before .before .before .before .before .before .before .before .pre .1)
 
 raise-requires : tie.Need-raise-requires
-raise-requires c κs = omega (arith, c .before .before .before .before .before .before .before .before .before .before .before .before .before .before .pre .0 .sound .values-length, c .before .before .before .before .before .before .before .before .before .before .before .before .before .before .pre .1)
+raise-requires c κs = omega (arith, c .before .before .before .before .before .before .before .before .before .before .before .before .pre .0 .sound .values-length, c .before .before .before .before .before .before .before .before .before .before .before .before .pre .1)
 
 moves-requires : tie.Need-moves-requires
 moves-requires c κs = search needs
 
+same-length : tie.Need-same-length
+same-length c = c .before .before .before .raise .kept .0
+
+same-length-2 : tie.Need-same-length-2
+same-length-2 c = search needs
+
 same-length-3 : tie.Need-same-length-3
-same-length-3 c = c .before .before .before .raise .kept .0
+same-length-3 c = c .before .before .before .before .before .before .before .scan .kept .1 .1 .1 .0
 
-same-length-4 : tie.Need-same-length-4
-same-length-4 c = search needs
-
-same-length-5 : tie.Need-same-length-5
-same-length-5 c = c .before .before .before .before .before .before .before .before .scan .kept .1 .1 .1 .0
-
-returns-2 : tie.Need-returns-2
-returns-2 c =
-    let h = c .before .before .before .before .before .before .before .before .before .before .before .before .before .before .before .before .before .before .pre .0 in (
-      (λ l.
-          backup-done h _ _ _ _ l
-          (given-scan h _ _ (c .before .before .before .before .before .before .before .before .before .before .before .before .before .before .before .before .before .before .pre .2) (c .before .before .before .before .before .before .before .before .scan .ensures .0)) (c .before .before .before .raise .ensures .0) (c .before .before .before .raise .ensures .1) (c .moves .ensures)),
-      refl,
-      refl,
-    )
+returns : tie.Need-returns
+returns c =
+    let h = c .before .before .before .before .before .before .before .before .before .before .before .before .before .before .before .before .pre .0 in
+    λ l.
+    backup-done h _ _ _ _ l
+    (given-scan h _ _ (c .before .before .before .before .before .before .before .before .before .before .before .before .before .before .before .before .pre .2) (c .before .before .before .before .before .before .before .scan .ensures .0)) (c .before .before .before .raise .ensures .0) (c .before .before .before .raise .ensures .1) (c .moves .ensures)
 
 pub backup-spec : {M : Type 1} → statement M
 backup-spec =
@@ -82,18 +61,13 @@ backup-spec =
     mul-prev
     slice-read-prev
     cast-before
-    add-t20
+    add-t19
     scan-requires
-    undo-requires
-    cast-t31
-    same-length
-    same-length-2
-    returns
     mul-picks
     slice-write-picks
     raise-requires
     moves-requires
+    same-length
+    same-length-2
     same-length-3
-    same-length-4
-    same-length-5
-    returns-2)
+    returns)

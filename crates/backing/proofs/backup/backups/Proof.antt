@@ -1,7 +1,6 @@
 -- `backups` goes along the walk list: the backups that are left give the same as all.
 -- Made by `places make` from answers/backup/backups.ans: edit that file, and not this one.
-use mathlib.Core.Path.{_≡_, refl, sym, _∙_}
-use mathlib.Core.Bool.{true≢false}
+use mathlib.Core.Path.{_≡_, refl, _∙_}
 use Prim.Native.Nat.{_-_}
 use lib.ListN.{length, take}
 use Rattle.model.specs.Sections.{problemOf}
@@ -14,16 +13,15 @@ use Rattle.backing.proofs.backup.backups.Statement.{statement}
 use Rattle.backing.proofs.backup.backups.Tie as tie
 
 abbrev Inv-loop : tie.InvT-loop
-Inv-loop file index values₀ picks₀ remembered₀ log₀ list n tolerance give tally₀ i₀ values picks remembered log tally i =
+Inv-loop file index values₀ picks₀ remembered₀ list n tolerance give tally₀ i₀ values picks remembered tally i =
     BackLeft file index list n tolerance
     (Rounds.backups (problemOf file) tolerance (take n list)
     (machine values₀ picks₀ remembered₀ (take n list) (tally₀ .count) (tally₀ .moved)))
-    (machine values picks remembered (take n list) (tally .count) (tally .moved)) (tally .over) i
+    (machine values picks remembered (take n list) (tally .count) (tally .moved)) i
     × (length values ≡ length values₀) × (length picks ≡ length picks₀) × (length remembered ≡ length remembered₀)
-    × (tally .row ≡ 0)
 
 abbrev μ-loop : tie.MeasureT-loop
-μ-loop file index values₀ picks₀ remembered₀ log₀ list n tolerance give tally₀ i₀ values picks remembered log tally i = n - i
+μ-loop file index values₀ picks₀ remembered₀ list n tolerance give tally₀ i₀ values picks remembered tally i = n - i
 
 loop-holds : tie.Need-loop-holds Inv-loop μ-loop
 loop-holds c = (
@@ -33,12 +31,10 @@ loop-holds c = (
     left = refl;
     room = c .before .before .before .before .before .before .pre .3;
     within = omega arith;
-    fine = c .before .before .before .before .before .before .pre .4;
   },
   refl,
   refl,
   refl,
-  c .before .before .before .before .before .before .pre .5,
 )
 
 mul-s : tie.Need-mul-s Inv-loop μ-loop
@@ -52,50 +48,37 @@ cast-s c = omega (arith, c .shared-slice-known4 .given (c .before .before .loop 
 
 backup-requires : tie.Need-backup-requires Inv-loop μ-loop
 backup-requires c κs = (
-  c .before .before .before .before .before .before .loop .inv .0 .backable,
-  next-open (c .before .before .before .before .before .before .loop .inv .0) (c .before .before .before .before .before .loop-test .taken) .state,
-  c .before .before .before .before .before .before .before .before .before .before .before .before .before .pre .2,
-  next-room (c .before .before .before .before .before .before .loop .inv .0) (c .before .before .before .before .before .loop-test .taken),
+  c .before .before .before .before .before .loop .inv .0 .backable,
+  next-open (c .before .before .before .before .before .loop .inv .0) (c .before .before .before .before .loop-test .taken) .state,
+  c .before .before .before .before .before .before .before .before .before .before .before .before .pre .2,
+  next-room (c .before .before .before .before .before .loop .inv .0) (c .before .before .before .before .loop-test .taken),
 )
 
-same-length : tie.Need-same-length Inv-loop μ-loop
-same-length c = c .before .before .before .before .before .before .before .backup .kept .1 .1 .0 ∙ (c .before .before .before .before .before .before .before .before .before .before .before .before .before .before .loop .inv .1)
-
-same-length-2 : tie.Need-same-length-2 Inv-loop μ-loop
-same-length-2 c = c .before .before .before .before .before .before .before .backup .kept .1 .1 .1 .0 ∙ (c .before .before .before .before .before .before .before .before .before .before .before .before .before .before .loop .inv .2)
-
-same-length-3 : tie.Need-same-length-3 Inv-loop μ-loop
-same-length-3 c = c .before .before .before .before .before .before .before .backup .kept .1 .1 .1 .1 .0 ∙ (c .before .before .before .before .before .before .before .before .before .before .before .before .before .before .loop .inv .3)
-
-returns : tie.Need-returns Inv-loop μ-loop
-returns c = absurd (true≢false (sym (c .if1 .taken) ∙ (c .before .before .before .before .before .before .before .backup .ensures .1)))
-
 add-i : tie.Need-add-i Inv-loop μ-loop
-add-i c = omega (arith, c .before .before .before .before .before .before .before .before .before .before .before .before .before .loop-test .taken)
+add-i c = omega (arith, c .before .before .before .before .before .before .before .before .before .before .before .loop-test .taken)
 
 loop-less : tie.Need-loop-less Inv-loop μ-loop
-loop-less c = omega (arith, c .before .before .before .before .before .before .before .before .before .before .before .before .before .loop-test .taken)
+loop-less c = omega (arith, c .before .before .before .before .before .before .before .before .before .before .before .loop-test .taken)
 
 loop-again : tie.Need-loop-again Inv-loop μ-loop
 loop-again c = (
-  left-backed (c .before .before .before .before .before .before .before .before .before .before .before .before .before .before .loop .inv .0) (c .before .before .before .before .before .before .before .before .before .before .before .before .before .loop-test .taken) (c .before .before .before .before .before .before .before .backup .ensures .0 _) (c .before .before .before .before .before .before .before .backup .ensures .1),
-  c .before .before .before .before .before .before .before .backup .kept .1 .1 .0 ∙ (c .before .before .before .before .before .before .before .before .before .before .before .before .before .before .loop .inv .1),
-  c .before .before .before .before .before .before .before .backup .kept .1 .1 .1 .0 ∙ (c .before .before .before .before .before .before .before .before .before .before .before .before .before .before .loop .inv .2),
-  c .before .before .before .before .before .before .before .backup .kept .1 .1 .1 .1 .0 ∙ (c .before .before .before .before .before .before .before .before .before .before .before .before .before .before .loop .inv .3),
-  c .before .before .before .before .before .before .before .backup .ensures .2,
+  left-backed (c .before .before .before .before .before .before .before .before .before .before .before .before .loop .inv .0) (c .before .before .before .before .before .before .before .before .before .before .before .loop-test .taken) (c .before .before .before .before .before .before .backup .ensures _),
+  c .before .before .before .before .before .before .backup .kept .1 .1 .0 ∙ (c .before .before .before .before .before .before .before .before .before .before .before .before .loop .inv .1),
+  c .before .before .before .before .before .before .backup .kept .1 .1 .1 .0 ∙ (c .before .before .before .before .before .before .before .before .before .before .before .before .loop .inv .2),
+  c .before .before .before .before .before .before .backup .kept .1 .1 .1 .1 .0 ∙ (c .before .before .before .before .before .before .before .before .before .before .before .before .loop .inv .3),
 )
 
-same-length-4 : tie.Need-same-length-4 Inv-loop μ-loop
-same-length-4 c = c .before .loop .inv .1
+same-length : tie.Need-same-length Inv-loop μ-loop
+same-length c = c .before .loop .inv .1
 
-same-length-5 : tie.Need-same-length-5 Inv-loop μ-loop
-same-length-5 c = c .before .loop .inv .2
+same-length-2 : tie.Need-same-length-2 Inv-loop μ-loop
+same-length-2 c = c .before .loop .inv .2
 
-same-length-6 : tie.Need-same-length-6 Inv-loop μ-loop
-same-length-6 c = c .before .loop .inv .3
+same-length-3 : tie.Need-same-length-3 Inv-loop μ-loop
+same-length-3 c = c .before .loop .inv .3
 
-returns-2 : tie.Need-returns-2 Inv-loop μ-loop
-returns-2 c = (all-backed (c .before .loop .inv .0) (c .loop-test .left), c .before .loop .inv .0 .fine, c .before .loop .inv .4)
+returns : tie.Need-returns Inv-loop μ-loop
+returns c = all-backed (c .before .loop .inv .0) (c .loop-test .left)
 
 pub backups-spec : {M : Type 1} → statement M
 backups-spec =
@@ -106,14 +89,10 @@ backups-spec =
     shared-slice-read-s
     cast-s
     backup-requires
-    same-length
-    same-length-2
-    same-length-3
-    returns
     add-i
     loop-less
     loop-again
-    same-length-4
-    same-length-5
-    same-length-6
-    returns-2)
+    same-length
+    same-length-2
+    same-length-3
+    returns)

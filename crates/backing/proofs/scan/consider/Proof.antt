@@ -1,5 +1,4 @@
--- `consider` is the model's: a row is skipped, or evaluated under the values as they are. The value always fits, so that number 14
--- is never answered.
+-- `consider` is the model's: a row is skipped, or evaluated under the values as they are. The value fits.
 -- Made by `places make` from answers/scan/consider.ans: edit that file, and not this one.
 use mathlib.Core.Path.{sym, _∙_, ap}
 use mathlib.Core.Bool.{not}
@@ -20,41 +19,32 @@ beats-requires c κs = search needs
 
 returns : tie.Need-returns
 returns c = (
-  row-skipped (c .before .before .before .before .before .before .before .pre .0) _ _ (ap not (going-beats (c .before .before .before .before .before .before .before .pre .3) _ ∙ sym (c .before .beats .ensures)) ∙ (c .if1 .taken)),
+  row-skipped (c .before .before .before .before .before .before .before .pre .0) _ _ (ap not (going-beats _ _ (c .before .before .before .before .before .before .before .pre .3) _ ∙ sym (c .before .beats .ensures)) ∙ (c .if1 .taken)),
   c .before .before .before .before .before .before .before .pre .3,
 )
 
 row-value-requires : tie.Need-row-value-requires
 row-value-requires c κs = record { ready = c .before .before .before .before .before .before .before .pre .0 .ready; entries-there = c .before .before .before .before .before .before .before .pre .0 .values-long; row-there = c .before .before .before .before .before .before .before .pre .1 }
 
-too-large-requires : tie.Need-too-large-requires
-too-large-requires c κs = omega (arith, c .before .before .before .before .before .before .before .before .before .before .pre .0 .ready .indexed .within .rows-high, c .before .before .before .before .before .before .before .before .before .before .pre .1)
-
-returns-2 : tie.Need-returns-2
-returns-2 c = absurd (omega (arith, c .before .before .before .before .before .before .before .before .before .before .before .pre .0 .fits (c .before .before .before .before .before .before .before .before .before .before .before .args .r) (c .before .before .before .before .before .before .before .before .before .before .before .pre .1), c .before .before .before .row-value .ensures .0, c .before .if2 .taken))
-
 cast-value : tie.Need-cast-value
-cast-value c = omega (arith, c .before .if2 .left)
-
-note-requires : tie.Need-note-requires
-note-requires c κs = omega (arith, c .before .before .before .before .before .before .before .before .before .before .before .before .pre .0 .ready .indexed .within .rows-high, c .before .before .before .before .before .before .before .before .before .before .before .before .pre .1)
+cast-value c = omega (arith, c .before .before .before .before .before .before .before .before .before .pre .0 .fits (c .before .before .before .before .before .before .before .before .before .args .r) (c .before .before .before .before .before .before .before .before .before .pre .1), c .before .row-value .ensures .0)
 
 mul-remembered : tie.Need-mul-remembered
 mul-remembered c = search needs
 
 slice-write-remembered : tie.Need-slice-write-remembered
-slice-write-remembered c = omega (arith, c .before .before .before .before .before .before .before .before .before .before .before .before .before .pre .0 .remembered-long, c .before .before .before .before .before .before .before .before .before .before .before .before .before .pre .1)
+slice-write-remembered c = omega (arith, c .before .before .before .before .before .before .before .before .before .pre .0 .remembered-long, c .before .before .before .before .before .before .before .before .before .pre .1)
 
 evaluated-requires : tie.Need-evaluated-requires
-evaluated-requires c κs = (omega (arith, c .before .before .before .before .before .before .before .before .before .before .before .before .before .pre .0 .ready .indexed .within .rows-high, c .before .before .before .before .before .before .before .before .before .before .before .before .before .pre .1), c .before .before .before .before .before .before .before .before .before .before .before .before .before .pre .2, c .before .before .before .before .before .before .before .before .before .before .before .before .before .pre .3)
+evaluated-requires c κs = (omega (arith, c .before .before .before .before .before .before .before .before .before .pre .0 .ready .indexed .within .rows-high, c .before .before .before .before .before .before .before .before .before .pre .1), c .before .before .before .before .before .before .before .before .before .pre .2, c .before .before .before .before .before .before .before .before .before .pre .3)
 
 same-length : tie.Need-same-length
 same-length c = search needs
 
-returns-3 : tie.Need-returns-3
-returns-3 c = (
-  row-evaluated (c .before .before .before .before .before .before .before .before .before .before .before .before .before .before .pre .0) _ _ _ (ap not (going-beats (c .before .before .before .before .before .before .before .before .before .before .before .before .before .before .pre .3) _ ∙ sym (c .before .before .before .before .before .before .before .before .beats .ensures)) ∙ (c .before .before .before .before .before .before .before .if1 .left))
-      (c .before .before .before .before .before .before .row-value .ensures .0) (c .evaluated .ensures .0 (c .before .before .before .before .before .before .before .before .before .before .before .before .before .before .args .remembered .now)),
+returns-2 : tie.Need-returns-2
+returns-2 c = (
+  row-evaluated (c .before .before .before .before .before .before .before .before .before .before .pre .0) _ _ _ (ap not (going-beats _ _ (c .before .before .before .before .before .before .before .before .before .before .pre .3) _ ∙ sym (c .before .before .before .before .beats .ensures)) ∙ (c .before .before .before .if1 .left))
+      (c .before .before .row-value .ensures .0) (c .evaluated .ensures .0 (c .before .before .before .before .before .before .before .before .before .before .args .remembered .now)),
   c .evaluated .ensures .1,
 )
 
@@ -67,12 +57,9 @@ consider-spec =
     beats-requires
     returns
     row-value-requires
-    too-large-requires
-    returns-2
     cast-value
-    note-requires
     mul-remembered
     slice-write-remembered
     evaluated-requires
     same-length
-    returns-3)
+    returns-2)

@@ -2,7 +2,7 @@
 -- Made by `places make` from answers/scan/evaluated.ans: edit that file, and not this one.
 use mathlib.Core.Path.{refl, sym, _∙_}
 use Rattle.model.specs.Rounds.{evaluateOn}
-use Rattle.backing.proofs.Scanning.{going-beats, going-picked, going-still}
+use Rattle.backing.proofs.Scanning.{going-beats, going-picked}
 use borrow.Author.Needs.{needs}
 use Rattle.backing.proofs.scan.evaluated.Statement.{statement}
 use Rattle.backing.proofs.scan.evaluated.Tie as tie
@@ -22,14 +22,12 @@ add-t8 c = search needs
 returns : tie.Need-returns
 unfolding evaluateOn
 returns c =
-    let h = c .before .before .before .pre .2 in
-    (λ l. rw (going-beats h _ ∙ sym (c .before .before .beats .ensures) ∙ (c .before .if1 .taken)) refl, going-picked _ _ (c .before .before .before .pre .0))
+    (λ l. rw (going-beats _ _ (c .before .before .before .pre .2) _ ∙ sym (c .before .before .beats .ensures) ∙ (c .before .if1 .taken)) refl, going-picked _ _ (c .before .before .before .pre .0))
 
 returns-2 : tie.Need-returns-2
 unfolding evaluateOn
 returns-2 c =
-    let h = c .before .before .before .pre .2 in
-    (λ l. rw (going-beats h _ ∙ sym (c .before .before .beats .ensures) ∙ (c .before .if1 .left)) refl, going-still h)
+    (λ l. rw (going-beats _ _ (c .before .before .before .pre .2) _ ∙ sym (c .before .before .beats .ensures) ∙ (c .before .if1 .left)) refl, c .before .before .before .pre .2)
 
 pub evaluated-spec : {M : Type 1} → statement M
 evaluated-spec = tie.close (tie.spec beats-requires cast-t6 add-t7 add-t8 returns returns-2)

@@ -10,14 +10,14 @@ use Rattle.backing.proofs.scan.others.Statement.{statement}
 use Rattle.backing.proofs.scan.others.Tie as tie
 
 abbrev Inv-loop : tie.InvT-loop
-Inv-loop file index values remembered₀ log₀ first end prev b₀ next₀ remembered log b next =
+Inv-loop file index values remembered₀ first end prev b₀ next₀ remembered b next =
     ScanLeft file index values prev end
     (othersUnder file values prev first (end - first) (found (b₀ .best) (b₀ .pick) (b₀ .count) remembered₀))
-    (found (b .best) (b .pick) (b .count) remembered) (b .below) (b .over) next
+    (found (b .best) (b .pick) (b .count) remembered) (b .below) next
     × (length remembered ≡ length remembered₀)
 
 abbrev μ-loop : tie.MeasureT-loop
-μ-loop file index values remembered₀ log₀ first end prev b₀ next₀ remembered log b next = end - next
+μ-loop file index values remembered₀ first end prev b₀ next₀ remembered b next = end - next
 
 loop-holds : tie.Need-loop-holds Inv-loop μ-loop
 loop-holds c = (
@@ -37,20 +37,20 @@ add-next c = omega (arith, c .loop-test .taken)
 
 consider-requires : tie.Need-consider-requires Inv-loop μ-loop
 consider-requires c κs = (
-  c .before .before .before .before .loop .inv .0 .scannable,
-  omega (arith, c .before .before .before .loop-test .taken, c .before .before .before .before .loop .inv .0 .rows),
-  left-room (c .before .before .before .before .loop .inv .0),
-  c .before .before .before .before .loop .inv .0 .going,
+  c .before .before .before .loop .inv .0 .scannable,
+  omega (arith, c .before .before .loop-test .taken, c .before .before .before .loop .inv .0 .rows),
+  left-room (c .before .before .before .loop .inv .0),
+  c .before .before .before .loop .inv .0 .going,
 )
 
 loop-less : tie.Need-loop-less Inv-loop μ-loop
-loop-less c = omega (arith, c .before .before .before .before .before .before .loop-test .taken)
+loop-less c = omega (arith, c .before .before .before .before .before .loop-test .taken)
 
 loop-again : tie.Need-loop-again Inv-loop μ-loop
 loop-again c = (
-  left-taken (c .before .before .before .before .before .before .before .loop .inv .0) (c .before .before .before .before .before .before .loop-test .taken) (c .before .before .before .before .before .if1 .taken) (c .before .before .consider .ensures .0) (c .before .before .consider .ensures .1)
+  left-taken (c .before .before .before .before .before .before .loop .inv .0) (c .before .before .before .before .before .loop-test .taken) (c .before .before .before .before .if1 .taken) (c .before .before .consider .ensures .0) (c .before .before .consider .ensures .1)
       (c .before .before .consider .kept .1 .1 .1 .0),
-  c .before .before .consider .kept .1 .1 .1 .0 ∙ (c .before .before .before .before .before .before .before .loop .inv .1),
+  c .before .before .consider .kept .1 .1 .1 .0 ∙ (c .before .before .before .before .before .before .loop .inv .1),
 )
 
 loop-less-2 : tie.Need-loop-less-2 Inv-loop μ-loop

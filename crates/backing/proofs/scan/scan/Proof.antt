@@ -36,25 +36,25 @@ cast-end c = omega (arith, state-rows (c .before .before .before .before .before
 
 picked-requires : tie.Need-picked-requires
 picked-requires c κs =
-    (c .before .before .before .before .before .before .before .before .pre .0, state-rows (c .before .before .before .before .before .before .before .before .pre .0 .ready) (c .before .before .before .before .before .before .before .before .pre .1) .within, room-at-first (c .before .before .before .before .before .before .before .before .pre .0) _ _ _ (c .before .before .before .before .before .before .before .before .pre .2), c .before .before .before .before .before .before .before .before .pre .3)
+    (c .before .before .before .before .before .before .before .pre .0, state-rows (c .before .before .before .before .before .before .before .pre .0 .ready) (c .before .before .before .before .before .before .before .pre .1) .within, room-at-first (c .before .before .before .before .before .before .before .pre .0) _ _ _ (c .before .before .before .before .before .before .before .pre .2), c .before .before .before .before .before .before .before .pre .3)
 
 others-requires : tie.Need-others-requires
 others-requires c κs =
-    let rows = state-rows (c .before .before .before .before .before .before .before .before .before .before .before .before .before .pre .0 .ready) (c .before .before .before .before .before .before .before .before .before .before .before .before .before .pre .1) in (
-      still-scannable (c .before .before .before .before .picked .kept .1 .1 .1 .0) (c .before .before .before .before .before .before .before .before .before .before .before .before .before .pre .0),
+    let rows = state-rows (c .before .before .before .before .before .before .before .before .before .before .before .pre .0 .ready) (c .before .before .before .before .before .before .before .before .before .before .before .pre .1) in (
+      still-scannable (c .before .before .before .picked .kept .1 .1 .1 .0) (c .before .before .before .before .before .before .before .before .before .before .before .pre .0),
       rows .order,
       rows .within,
-      own-room (c .before .before .before .before .before .before .before .before .before .before .before .before .before .pre .0) rows _ _ (c .before .before .before .before .picked .ensures .0) (c .before .before .before .before .before .before .before .before .before .before .before .before .before .pre .2),
-      c .before .before .before .before .picked .ensures .1,
+      own-room (c .before .before .before .before .before .before .before .before .before .before .before .pre .0) rows _ _ (c .before .before .before .picked .ensures .0) (c .before .before .before .before .before .before .before .before .before .before .before .pre .2),
+      c .before .before .before .picked .ensures .1,
     )
 
 same-length : tie.Need-same-length
-same-length c = c .before .before .others .kept .1 .1 .1 .0 ∙ (c .before .before .before .before .before .before .before .picked .kept .1 .1 .1 .0)
+same-length c = c .before .before .others .kept .1 .1 .1 .0 ∙ (c .before .before .before .before .before .before .picked .kept .1 .1 .1 .0)
 
 returns : tie.Need-returns
 returns c =
-    let rows = state-rows (c .before .before .before .before .before .before .before .before .before .before .before .before .before .before .before .before .pre .0 .ready) (c .before .before .before .before .before .before .before .before .before .before .before .before .before .before .before .before .pre .1) in
-    (own-rows (c .before .before .before .before .before .before .before .before .before .before .before .before .before .before .before .before .pre .0) rows _ _ (c .before .before .before .before .before .before .before .picked .ensures .0) (c .before .before .others .ensures .0), c .before .before .others .ensures .1)
+    let rows = state-rows (c .before .before .before .before .before .before .before .before .before .before .before .before .before .before .pre .0 .ready) (c .before .before .before .before .before .before .before .before .before .before .before .before .before .before .pre .1) in
+    (own-rows (c .before .before .before .before .before .before .before .before .before .before .before .before .before .before .pre .0) rows _ _ (c .before .before .before .before .before .before .picked .ensures .0) (c .before .before .others .ensures .0), c .before .before .others .ensures .1)
 
 pub scan-spec : {M : Type 1} → statement M
 scan-spec =

