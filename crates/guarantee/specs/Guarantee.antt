@@ -1,14 +1,14 @@
 -- What is promised of the rules of documents 01 and 02: each sentence is quoted over the theorem that it is, and a proof is a line
--- that cites. Nothing has to be believed but the model. The statements add `Met`, `finishedValues`, `finishedPicks`, `after` and `taken`
--- below and, of other files, with what these rest on: `Accepts`, with `AcceptsWithin`, `NoUndercut` and `Marked`; `withTolerance`; `Beyond`;
--- `HasLine` and `PickLine`; `Encodable`, with `WellFormed`; `Says`; `machineOf`; `Allowed`; `Takes`; `CountsWithin`; `cut`. All else that
--- a statement names is of the model, or of the kit.
-use mathlib.Core.Path.{_≡_, _∙_, ap}
+-- that cites. Nothing has to be believed but the model. The statements add `Met`, `runTo`, `finishedValues`, `finishedPicks`, `after` and
+-- `taken` below and, of other files, with what these rest on: `Accepts`, with `AcceptsWithin`, `NoUndercut` and `Marked`; `withTolerance`;
+-- `Beyond`; `HasLine` and `PickLine`; `Encodable`, with `WellFormed`; `Says`; `machineOf`; `Allowed`; `Takes`; `CountsWithin`; `cut`. All
+-- else that a statement names is of the model, or of the kit.
+use mathlib.Core.Path.{_≡_, sym, _∙_, ap, subst}
 use Prim.Native.Nat.{ℕ, _+_, _-_, _*_, _≤_, _<_}
 use native.Mathlib.Omega.{arith}
 use mathlib.Core.Bool.{Bool, true, false}
 use mathlib.Core.Logic.{_⊎_, _↔_}
-use mathlib.Core.List.{List, [], _∷_}
+use mathlib.Core.List.{List, [], _∷_, _++_, append-nil}
 use lib.Dec.{eqb, leb}
 use lib.IntN.{ℤ, pos}
 use lib.ListN.{getD, length}
@@ -409,24 +409,32 @@ pub data Met (p : Problem) (t : Tables) : List ℕ → Machine → Type 0 where
   backs-up : (e : ℕ) {s : ℕ} {rest : List ℕ} {m : Machine} → Met p t (s ∷ rest) m → Met p t rest (backup p e s m)
 
 module _ (p : Problem) (t : Tables) (e : ℕ) where
-  backups-met : (l : List ℕ) (m : Machine) → Met p t l m → Met p t [] (backups p e l m)
+  backups-met : (l rest : List ℕ) (m : Machine) → Met p t (l ++ rest) m → Met p t rest (backups p e l m)
   unfolding backups
-  backups-met [] m met = met
-  backups-met (s ∷ l) m met = backups-met l (backup p e s m) (backs-up e met)
+  backups-met [] rest m met = met
+  backups-met (s ∷ l) rest m met = backups-met l rest (backup p e s m) (backs-up e met)
+
+  -- within a round, the machine whenever so many of the listed states are backed up
+  turn-met
+      : (m : Machine) (l rest : List ℕ) → Met p t [] m → walk p (byState (m .picks)) .list ≡ l ++ rest
+      → Met p t rest (backups p e l (walked p m))
+  turn-met m l rest met is = backups-met l rest (walked p m) (subst (λ x. Met p t x (walked p m)) is (walks met))
 
   round-met : (m : Machine) → Met p t [] m → Met p t [] (round p e m)
   unfolding roundWith
-  round-met m met = backups-met (walk p (byState (m .picks)) .list) (walked p m) (walks met)
+  round-met m met = turn-met m (walk p (byState (m .picks)) .list) [] met (sym (append-nil _))
 
   -- a run from a machine that is met, with whatever tolerance, ends at one
   pub run-goes-on-met
       : (budget : ℕ) (going : Bool) (n : ℕ) (m : Machine) → Met p t [] m → Met p t [] (machineOf (runFrom p e budget going n m))
   run-goes-on-met = run-keeps p e (λ n. Met p t []) (λ n. round-met)
 
+-- the machine that a run from lent tables comes to with a budget
+abbrev pub runTo : Kind → Problem → Tables → ℕ → Machine
+runTo kind p t budget = machineOf (runOf kind p budget (t .values) (t .picks) (t .remembered))
+
 -- so, whatever the budget, and after each round, the run's machine is met
-pub run-met
-    : (kind : Kind) (p : Problem) (t : Tables) (budget : ℕ)
-    → Met p t [] (machineOf (runOf kind p budget (t .values) (t .picks) (t .remembered)))
+pub run-met : (kind : Kind) (p : Problem) (t : Tables) (budget : ℕ) → Met p t [] (runTo kind p t budget)
 run-met kind p t budget =
     whole-run-keeps p (λ n. Met p t []) (λ e n. round-met p t e) kind budget (t .values) (t .picks) (t .remembered) starts
 
@@ -440,12 +448,20 @@ module _ (f : List ℕ) (budget : ℕ) (t : Tables) (file : fileQuestions f ≡ 
       underway-backup (problemOf f) (well-formed f file) e s rest m (underway met)
 
   -- Request E10: "Operators must acknowledge number 14 in their handbook and no file has produced it. Show that an accepted file never
-  -- leads to it, at the limits of E9 and for each W". A run, plain or finishing, starts, walks and backs up, so that it evaluates rows only
-  -- under the values of machines that are met: under these every row's value fits in 32 bits
+  -- leads to it, at the limits of E9 and for each W": under the values of every machine that is met each row's value fits in 32 bits
   pub row-values-fit
       : {rest : List ℕ} {m : Machine} → Met (problemOf f) t rest m → (r : ℕ) → r < problemOf f .rows
       → rowValue (problemOf f) (byState (m .values)) r < valueBound
   row-values-fit {m = m} met = evaluation-fits (problemOf f) (well-formed f file) m (underway met .sound)
+
+  -- and so whatever a run evaluates, plain or finishing: after n rounds of it, in the next, of either part's tolerance, when the states of
+  -- `l` are backed up and the turn is that of the first of `rest`
+  pub run-values-fit
+      : (kind : Kind) (n e : ℕ) (l rest : List ℕ)
+      → walk (problemOf f) (byState (runTo kind (problemOf f) t n .picks)) .list ≡ l ++ rest → (r : ℕ) → r < problemOf f .rows
+      → rowValue (problemOf f) (byState (backups (problemOf f) e l (walked (problemOf f) (runTo kind (problemOf f) t n)) .values)) r
+      < valueBound
+  run-values-fit kind n e l rest is = row-values-fit (turn-met (problemOf f) t e _ l rest (run-met kind (problemOf f) t n) is)
 
   -- Demand 2: "A solved or spent run equals, in values, moves and counts, the rounds of document 01, built on the Bellman backup". Best of
   -- a backup is document 000's definition 4 under the values of that moment, with giving up as one more choice

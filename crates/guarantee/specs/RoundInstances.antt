@@ -18,16 +18,16 @@ use Rattle.model.specs.Sections.{statesAt, rowsAt, outcomesAt, outcomesFrom, le
 use Rattle.model.specs.Questions.{passes}
 use Rattle.model.specs.Walk.{In, Reached, at-start, visitOutcomes, visitState, next, walk, walkWith, pickCost, leastCost}
 use Rattle.model.specs.Rounds.{Machine, fillTo, machineStart, walked, scanOf, bellman, beats, evaluateOn, considerOn, consider}
-use Rattle.model.specs.Rounds.{takenIf, othersFrom, traverse, raiseOn, settle, backup, runFrom}
+use Rattle.model.specs.Rounds.{takenIf, othersFrom, traverse, raiseOn, settle, backup, backups, runFrom, runFromWith, goesOnWith}
 use Rattle.model.specs.Carried.{counts}
 use Rattle.model.specs.Solution.{Solution, solveQuestions}
-use Rattle.model.specs.declared.Kind.the-variants.{Plain}
+use Rattle.model.specs.declared.Kind.the-variants.{Plain, Finishing}
 use Rattle.model.specs.Following.{moved}
 use Rattle.guarantee.specs.Graphs.{clear-entry}
 use Rattle.guarantee.specs.Sound.{Allowed}
 use Rattle.guarantee.specs.Backups.{machineOf}
-use Rattle.guarantee.specs.Guarantee.{plan-gives-up-when-cheaper, Met, starts, walks, backs-up, row-values-fit, built-on-bellman}
-use Rattle.guarantee.specs.Guarantee.{gives-up-when-cheaper, row-beats-giving-up, earlier-pick-wins, row-order-wins}
+use Rattle.guarantee.specs.Guarantee.{plan-gives-up-when-cheaper, Met, starts, walks, backs-up, row-values-fit, run-values-fit}
+use Rattle.guarantee.specs.Guarantee.{built-on-bellman, gives-up-when-cheaper, row-beats-giving-up, earlier-pick-wins, row-order-wins}
 use Rattle.guarantee.specs.Guarantee.{remembered-low, skipped-not-picked, values-rise, values-high, picks-held}
 use Rattle.guarantee.specs.Guarantee.{goals-unpicked, marks-are-reached, list-is-open-reached, list-holds-once}
 use Rattle.guarantee.specs.Guarantee.{least-at-most, least-is-one, run-goes-on-met}
@@ -59,6 +59,11 @@ p-rounds-go = p-lent planRounds (omega arith)
 pub p-row-fits : rowValue problemP (byState (firstP .values)) 0 < valueBound
 unfolding problemOf statesAt rowsAt u16At
 p-row-fits = row-values-fit fileP planRounds (lent 3) p-passes p-rounds-go p-met 0 (leb-true _ _ refl)
+
+-- of the finishing run with no round done, at the turn of the start
+pub p-run-fits : rowValue problemP (byState (firstP .values)) 0 < valueBound
+unfolding walkWith visitState visitOutcomes next runFromWith goesOnWith backups machineStart fillTo problemOf statesAt rowsAt sumTo u16At u32At
+p-run-fits = run-values-fit fileP planRounds (lent 3) p-passes p-rounds-go Finishing 0 1 [] (0 ∷ []) refl 0 (leb-true _ _ refl)
 
 pub p-remembered : getD (firstP .remembered) 0 0 ≤ rowValue problemP (byState (firstP .values)) 0
 unfolding problemOf statesAt rowsAt u16At
