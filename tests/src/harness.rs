@@ -1,8 +1,9 @@
-//! What the comparison programs share: a count of the questions met, a list of differences, noise
-//! for lent tables, lengths for lent answers, and the programs' arguments.
+//! What the comparison programs share: a count of the questions met, a list of differences, lent
+//! tables of noise, lengths for lent answers, and the programs' arguments.
 
 use crate::library::ANSWER;
 use crate::random::Random;
+use crate::solver::OwnedTables;
 use crate::totals::{told_by, FOURTHS};
 use std::fmt::{Debug, Display, Formatter};
 use std::process::ExitCode;
@@ -260,6 +261,26 @@ noise!(u8, u16, u32, u64, i64);
 /// A table of noise.
 pub fn noise<T: Noise>(random: &mut Random, length: usize) -> Vec<T> {
     (0..length).map(|_| T::from_bits(random.bits())).collect()
+}
+
+/// Tables of noise: mostly longer than needed, or just long enough, or one of them short.
+pub fn lent_tables(random: &mut Random, states: usize, rows: usize) -> OwnedTables {
+    let mut lengths = [states, states, rows, states];
+    match random.below(8) {
+        0 => {
+            let table = random.below(lengths.len());
+            lengths[table] = lengths[table].saturating_sub(1);
+        }
+        1 => lengths.iter_mut().for_each(|length| *length -= random.below(2).min(*length)),
+        2..=3 => {}
+        _ => lengths.iter_mut().for_each(|length| *length += random.below(20)),
+    }
+    OwnedTables {
+        values: noise(random, lengths[0]),
+        picks: noise(random, lengths[1]),
+        remembered: noise(random, lengths[2]),
+        walk: noise(random, lengths[3]),
+    }
 }
 
 /// A length for a lent answer: mostly what it needs, sometimes more, sometimes less.

@@ -25,6 +25,7 @@ pub mod random;
 pub mod rate_table;
 pub mod set_form;
 pub mod sheets;
+pub mod short_ways;
 pub mod solver;
 pub mod stored;
 pub mod table_files;

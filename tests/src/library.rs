@@ -137,11 +137,40 @@ pub fn solve(file: &[u8], budget: u64, tables: Tables, answer: &mut [u64]) -> u8
 /// The product's run of a kind.
 #[inline]
 pub fn run(kind: Kind, file: &[u8], budget: u64, tables: Tables, answer: &mut [u64]) -> u8 {
-    let Tables { values, picks, remembered, walk } = tables;
     let function = match kind {
         Kind::Plain => cuulipso_solve,
         Kind::Finishing => cuulipso_finish,
     };
+    run_by(function, file, budget, tables, answer)
+}
+
+/// A C function with the arguments of the product's runs.
+pub type RunFunction = unsafe extern "C" fn(
+    file: *const u8,
+    file_length: usize,
+    budget: u64,
+    values: *mut u32,
+    values_length: usize,
+    picks: *mut u16,
+    picks_length: usize,
+    remembered: *mut u32,
+    remembered_length: usize,
+    walk: *mut u16,
+    walk_length: usize,
+    answer: *mut u64,
+    answer_length: usize,
+) -> u8;
+
+/// The run of such a function, which keeps to the lengths that it is given.
+#[inline]
+pub fn run_by(
+    function: RunFunction,
+    file: &[u8],
+    budget: u64,
+    tables: Tables,
+    answer: &mut [u64],
+) -> u8 {
+    let Tables { values, picks, remembered, walk } = tables;
     unsafe {
         function(
             file.as_ptr(),

@@ -62,6 +62,13 @@ fn visit(
     list.push(state);
 }
 
+/// The list of a walk. E9: "Each walk then begins with 2,048 marks, all clear."
+pub fn walk(problem: &Problem, picks: &[u16]) -> Vec<usize> {
+    let (mut marks, mut list) = ([false; MAX_STATES], Vec::new());
+    visit(problem, picks, problem.start, &mut marks, &mut list);
+    list
+}
+
 /// The rows of a state in the order a backup takes them: the one picked before, then the others.
 fn taken_in_order(problem: &Problem, before: u16, state: usize) -> Vec<usize> {
     let mut rows: Vec<usize> = problem.states[state].rows().collect();
@@ -73,7 +80,7 @@ fn taken_in_order(problem: &Problem, before: u16, state: usize) -> Vec<usize> {
 }
 
 /// One backup. Gives the evaluations made, and whether value and pick are as before.
-fn back_up(
+pub fn back_up(
     problem: &Problem,
     tolerance: u32,
     tables: &mut OwnedTables,
@@ -121,16 +128,14 @@ fn back_up(
     (evaluations, !rises && pick == before)
 }
 
-/// One round. E9: "Each walk then begins with 2,048 marks, all clear." Gives the list of its walk, the
-/// evaluations made, and whether it was quiet.
+/// One round. Gives the list of its walk, the evaluations made, and whether it was quiet.
 fn round(
     problem: &Problem,
     tolerance: u32,
     tables: &mut OwnedTables,
     ties: &mut Ties,
 ) -> (Vec<usize>, u64, bool) {
-    let (mut marks, mut list) = ([false; MAX_STATES], Vec::new());
-    visit(problem, &tables.picks, problem.start, &mut marks, &mut list);
+    let list = walk(problem, &tables.picks);
     tables.walk.fill(GIVE_UP);
     let (mut evaluations, mut quiet) = (0, true);
     for (at, &state) in list.iter().enumerate() {
@@ -142,6 +147,19 @@ fn round(
     (list, evaluations, quiet)
 }
 
+/// The tables before the first round: "At first V = H, no state has a pick, and each row remembers its value
+/// under H." The walk list is empty.
+pub fn first_tables(problem: &Problem) -> OwnedTables {
+    let states = problem.states.len();
+    let rows = 0..problem.rows.len();
+    OwnedTables {
+        values: problem.estimates.clone(),
+        picks: vec![NO_PICK; states],
+        remembered: rows.map(|row| problem.row_value(row, &problem.estimates)).collect(),
+        walk: vec![GIVE_UP; states],
+    }
+}
+
 /// The run of a kind as the papers tell it.
 pub fn told_run(
     kind: Kind,
@@ -150,12 +168,7 @@ pub fn told_run(
     tables: &mut OwnedTables,
     ties: &mut Ties,
 ) -> Answer {
-    let states = problem.states.len();
-    tables.values = problem.estimates.clone();
-    tables.picks = vec![NO_PICK; states];
-    let rows = 0..problem.rows.len();
-    tables.remembered = rows.map(|row| problem.row_value(row, &problem.estimates)).collect();
-    tables.walk = vec![GIVE_UP; states];
+    *tables = first_tables(problem);
     let (mut tolerance, mut goes_on) = (problem.tolerance, kind == Kind::Finishing);
     let mut evaluations = 0;
     for rounds in 1..=budget {

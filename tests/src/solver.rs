@@ -313,6 +313,16 @@ impl OwnedTables {
         }
     }
 
+    /// Tables long enough for every file.
+    pub fn longest() -> OwnedTables {
+        OwnedTables {
+            values: vec![0; MAX_STATES],
+            picks: vec![0; MAX_STATES],
+            remembered: vec![0; MAX_ROWS],
+            walk: vec![0; MAX_STATES],
+        }
+    }
+
     /// Lends them all.
     pub fn lend(&mut self) -> Tables<'_> {
         Tables {

@@ -4,75 +4,62 @@ use mathlib.Core.Path.{_≡_, refl, sym, _∙_, ap}
 use Prim.Native.Nat.{ℕ, _+_, _≤_, _<_}
 use native.Mathlib.Numerals.{add-one}
 use native.Mathlib.Omega.{arith}
-use mathlib.Core.Bool.{Bool, false, _||_, not}
+use mathlib.Core.Bool.{Bool, true, false, _||_, not}
 use mathlib.Core.List.{List, [], _∷_}
 use lib.Dec.{leb, eqb}
-use lib.ListN.{getD, set, length, take, drop}
-use lib.Seq.{drop-cons, getD-take, length-take-le, drop-length}
-use Rattle.model.specs.Limits.{giveUp}
-use Rattle.model.specs.Problem.{Problem, giveUpCost}
+use lib.ListN.{getD, length, take, drop}
+use lib.Seq.{getD-set-same, drop-cons, getD-take, length-take-le, drop-length}
 use Rattle.model.specs.Sections.{problemOf}
-use Rattle.model.specs.Value.{byState}
-use Rattle.model.specs.Rounds.{Found, Machine, scan, pickOf, raiseOn, settle, scanOf, backup, backups}
+use Rattle.model.specs.Rounds.{Found, Machine, raiseOn, settle, scanOf, backup, backups}
 use Rattle.guarantee.specs.Graphs.{in-place}
-use Rattle.guarantee.specs.Sound.{Sound, evaluation-fits, backup-sound}
+use Rattle.guarantee.specs.Sound.{Sound, backup-sound}
 use Rattle.guarantee.specs.Backups.{Open}
 use Rattle.guarantee.specs.Evaluations.{backups-count}
-use Rattle.guarantee.specs.Choosing.{threshold-giving-up}
-use Rattle.backing.specs.Backable.{countBound, found, Going, machine, Scannable, Backable, Listed}
+use Rattle.backing.specs.Backable.{countBound, machine, Backable, Kept, ScanDone, Listed}
+use Rattle.backing.specs.Turns.{turns}
 
--- in sound tables every row value fits
-pub backable-scannable
-    : {f index values picks remembered : List ℕ} → Backable f index values picks remembered → Scannable f index values remembered
-backable-scannable {f} {index} {values} {picks} {remembered} h =
-    record {
-      ready = h .ready;
-      values-long = h .sound .values-length;
-      remembered-long = h .sound .remembered-length;
-      fits = evaluation-fits (problemOf f) (h .formed) (machine values picks remembered [] 0 false) (h .sound);
-    }
+or-joined : (a b c d : Bool) → d ≡ (a || b) → (d || c) ≡ (a || (b || c))
+or-joined true b c d e = rw e refl
+or-joined false b c d e = rw e refl
 
-module _ {f index values picks remembered : List ℕ} (h : Backable f index values picks remembered) (s count : ℕ) where
-  abbrev p : Problem
-  p = problemOf f
+or-none : (a : Bool) → (a || false) ≡ a
+or-none true = refl
+or-none false = refl
 
-  -- the model's scan in these tables, `count` evaluations being made before
-  abbrev scanned : Found
-  scanned = scanOf p s (machine values picks remembered [] count false)
-
-  -- "Set best to 1000 × D and the pick to giving up": the scan begins so where `give` is what giving up costs
-  abbrev scannedFrom : ℕ → Found
-  scannedFrom give = scan p (byState values) s (getD picks s 0) (found give giveUp count remembered)
-
-  pub given-room : {give : ℕ} → give ≡ giveUpCost p → scanned .count < countBound → scannedFrom give .count < countBound
-  given-room cost l = rw cost l
-
-  pub given-scan : {give : ℕ} {a : Found} → give ≡ giveUpCost p → a ≡ scannedFrom give → a ≡ scanned
-  given-scan cost e = rw cost at e
-
-  -- a backup done: the scan's result is stored, and the value is raised by the model's test
+-- a backup done: the scan's result is stored, and the value is raised by the model's test
+module _ {f index values picks remembered : List ℕ} (s count : ℕ) where
   pub backup-done
-      : (e : ℕ) (moved : Bool) (l : List ℕ) {best pick count′ : ℕ} {values′ remembered′ : List ℕ} {rose moved′ : Bool}
-      → found best pick count′ remembered′ ≡ scanned → rose ≡ leb (getD values s 0 + e) best
-      → values′ ≡ raiseOn (leb (getD values s 0 + e) best) values s best
-      → moved′ ≡ (moved || (rose || not (eqb pick (getD picks s 0))))
-      → machine values′ (set picks s pick) remembered′ l count′ moved′ ≡ backup p e s (machine values picks remembered l count moved)
+      : (e : ℕ) (moved : Bool) (l : List ℕ) {a : Found} {values′ picks′ entries′ : List ℕ} {rose turned both moved′ : Bool}
+      → ScanDone f index s (machine values picks remembered [] count false) a picks′ entries′
+      → rose ≡ leb (getD values s 0 + e) (a .best) → values′ ≡ raiseOn (leb (getD values s 0 + e) (a .best)) values s (a .best)
+      → turned ≡ not (eqb (a .pick) (getD picks s 0)) → both ≡ (rose || turned) → moved′ ≡ (moved || both)
+      → machine values′ picks′ (a .remembered) l (a .count) moved′
+      ≡ backup (problemOf f) e s (machine values picks remembered l count moved)
   unfolding backup settle
-  backup-done e moved l done raised stored same = rw (← done) (rw (stored, same, raised) refl)
+  backup-done e moved l done raised stored turned either same =
+      rw (← done .same) (rw (stored, done .picks, same, either, raised, turned) refl)
 
--- a scan goes on from giving up
-pub given-going : (give : ℕ) → Going give (give + 1) giveUp
-given-going give = sym (threshold-giving-up (pickOf give giveUp) refl)
+  -- the pick that stands there afterwards is the scan's
+  pub pick-left
+      : (t : Bool) {a : Found} {picks′ entries′ : List ℕ} {turned r : Bool} → s < length picks
+      → ScanDone f index s (machine values picks remembered [] count false) a picks′ entries′
+      → turned ≡ not (eqb (a .pick) (getD picks s 0)) → r ≡ (t || turned)
+      → r ≡ (t || not (eqb (getD picks′ s 0) (getD picks s 0)))
+  pick-left t {a} l done turned e = rw (done .picks, getD-set-same picks s (a .pick) 0 l) (rw turned at e)
 
--- the loop along a walk list: what is left of the backups, from the i-th on, gives w
-pub record BackLeft (f index list : List ℕ) (n e : ℕ) (w m : Machine) (i : ℕ) : Type 0 where
+-- the loop along a walk list: what is left of the backups, from the i-th on, gives w, and whether a pick changes in all
+pub record BackLeft
+    (f index list : List ℕ) (n e : ℕ) (w : Machine) (t : Bool) (m : Machine) (entries : List ℕ) (turned : Bool) (i : ℕ) : Type 0 where
   pub backable : Backable f index (m .values) (m .picks) (m .remembered)
+  pub kept : Kept f index (m .picks) (m .remembered) entries
   pub listed : Listed f list n
   pub left : backups (problemOf f) e (drop i (take n list)) m ≡ w
+  pub turning : (turned || turns (problemOf f) e (drop i (take n list)) m) ≡ t
   pub room : w .evaluations < countBound
   pub within : i ≤ n
 
-module _ {f index list : List ℕ} {n e : ℕ} {w m : Machine} {i : ℕ} (h : BackLeft f index list n e w m i) where
+module _ {f index list : List ℕ} {n e : ℕ} {w : Machine} {t : Bool} {m : Machine} {entries : List ℕ} {turned : Bool} {i : ℕ}
+    (h : BackLeft f index list n e w t m entries turned i) where
   L : List ℕ
   L = take n list
 
@@ -96,6 +83,16 @@ module _ {f index list : List ℕ} {n e : ℕ} {w m : Machine} {i : ℕ} (h : Ba
   unfolding L backups
   next-left l = rw (rest l) at (h .left)
 
+  -- the pick of the next one, and then those of the others
+  next-turning
+      : i < n
+      → (turned
+      || (not (eqb (getD (backup (problemOf f) e (getD list i 0) m .picks) (getD list i 0) 0) (getD (m .picks) (getD list i 0) 0))
+      || turns (problemOf f) e (drop (i + 1) L) (backup (problemOf f) e (getD list i 0) m)))
+      ≡ t
+  unfolding L turns
+  next-turning l = rw (rest l) at (h .turning)
+
   -- what is counted after the next backup is at most what is counted in the end
   pub next-room : i < n → scanOf (problemOf f) (getD list i 0) m .count < countBound
   unfolding backup settle L
@@ -108,9 +105,11 @@ module _ {f index list : List ℕ} {n e : ℕ} {w m : Machine} {i : ℕ} (h : Ba
       )
 
   pub left-backed
-      : {m′ : Machine} → i < n → m′ ≡ backup (problemOf f) e (getD list i 0) m → BackLeft f index list n e w m′ (i + 1)
+      : {m′ : Machine} {entries′ : List ℕ} {turned′ : Bool} → i < n → m′ ≡ backup (problemOf f) e (getD list i 0) m
+      → turned′ ≡ (turned || not (eqb (getD (m′ .picks) (getD list i 0) 0) (getD (m .picks) (getD list i 0) 0)))
+      → Kept f index (m′ .picks) (m′ .remembered) entries′ → BackLeft f index list n e w t m′ entries′ turned′ (i + 1)
   unfolding L
-  left-backed l same =
+  left-backed {m′} {entries′} {turned′} l same turn kept =
       record {
         backable =
             record {
@@ -118,8 +117,10 @@ module _ {f index list : List ℕ} {n e : ℕ} {w m : Machine} {i : ℕ} (h : Ba
               formed = h .backable .formed;
               sound = rw same sound;
             };
+        kept = kept;
         listed = h .listed;
         left = rw same (next-left l);
+        turning = or-joined turned _ _ turned′ turn ∙ rw same (next-turning l);
         room = h .room;
         within = omega arith;
       }
@@ -132,10 +133,17 @@ module _ {f index list : List ℕ} {n e : ℕ} {w m : Machine} {i : ℕ} (h : Ba
           backup-sound (problemOf f) (h .backable .formed) (getD list i 0) m (o .state)
           (h .backable .sound) e (o .no-goal)
 
-  pub all-backed : n ≤ i → m ≡ w
-  unfolding L backups
-  all-backed l =
-      let none : drop i L ≡ [] = rw (same-end l) (drop-length L) in rw none at (h .left)
+  none-left : n ≤ i → drop i L ≡ []
+  unfolding L
+  none-left l = rw (same-end l) (drop-length L)
     where
       same-end : n ≤ i → i ≡ length L
       same-end l = omega (arith, h .within, long)
+
+  pub all-backed : n ≤ i → m ≡ w
+  unfolding L backups
+  all-backed l = rw (none-left l) at (h .left)
+
+  pub all-turned : n ≤ i → turned ≡ t
+  unfolding L turns
+  all-turned l = sym (or-none turned) ∙ rw (none-left l) at (h .turning)

@@ -1,2 +1,3 @@
 -- What the functions of this crate ask and promise, in the model's terms.
 pub mod Backable
+pub mod Turns

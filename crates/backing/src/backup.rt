@@ -1,24 +1,24 @@
 // The backup of a state, and the backups of a round.
 // The tables are changed where they lie, so that later states see earlier changes.
-use crate::scan::Found;
-use crate::scan::scan;
-use model::GIVE_UP;
+use crate::Terms;
+use crate::rescan::scan;
 ghost use mathlib.Core.Path.{_≡_};
 ghost use mathlib.Core.Bool.{_||_, not};
 ghost use mathlib.Core.List.{List, []};
 ghost use Prim.Native.Nat.{ℕ, _+_, _<_};
 ghost use lib.Dec.{leb, eqb};
 ghost use lib.ListN.{length, getD, take};
-ghost use Rattle.model.specs.Problem.{giveUpCost};
 ghost use Rattle.model.specs.Sections.{problemOf};
 ghost use Rattle.model.specs.Rounds.{raiseOn, scanOf};
 ghost use Rattle.model.specs.Rounds;
-ghost use Rattle.backing.specs.Backable.{countBound, machine, Backable, Listed};
+ghost use Rattle.backing.specs.Backable.{countBound, machine, Backable, Kept, Termed, Listed};
+ghost use Rattle.backing.specs.Turns.{turns};
 
-// A round so far: the evaluations of the run, and whether a value rose or a pick changed.
+// A round so far: the evaluations of the run, whether a value rose or a pick changed, and whether a pick changed.
 pub struct Tally {
     pub count: u64,
     pub moved: bool,
+    pub turned: bool,
 }
 
 // "If best − V(s) is at least e, V(s) becomes best": whether it did.
@@ -36,58 +36,65 @@ fn raise(values: &mut [u32], s: usize, best: u32, tolerance: u32) -> bool
     false
 }
 
-// Whether a round moved something, once a backup of it is done.
-fn moves(before: bool, rose: bool, pick: u16, prev: u16) -> bool
-    ensures { λ r. ⌜ r ≡ (before || (rose || not (eqb pick prev))) ⌝ }
+fn either(a: bool, b: bool) -> bool
+    ensures { λ r. ⌜ r ≡ (a || b) ⌝ }
 {
-    if before {
-        return true;
-    }
-    if rose {
-        return true;
-    }
+    a || b
+}
+
+fn differs(pick: u16, prev: u16) -> bool
+    ensures { λ r. ⌜ r ≡ not (eqb pick prev) ⌝ }
+{
     pick != prev
 }
 
-// Backs up state s; giving up costs `give`.
+// Backs up state s.
 fn backup(
     file: &[u8],
     index: &[u32],
+    entries: &mut [u32],
     values: &mut [u32],
     picks: &mut [u16],
     remembered: &mut [u32],
     s: usize,
-    tolerance: u32,
-    give: u32,
+    terms: Terms,
     t: Tally,
 ) -> Tally
     requires { ⌜ Backable (now file) (now index) (now values) (now picks) (now remembered)
-        × (s < problemOf (now file) .states) × (give ≡ giveUpCost (problemOf (now file)))
+        × Kept (now file) (now index) (now picks) (now remembered) (now entries)
+        × (s < problemOf (now file) .states) × Termed (problemOf (now file)) terms
         × (scanOf (problemOf (now file)) s (machine (now values) (now picks) (now remembered) [] (t .count) (t .moved)) .count
         < countBound) ⌝ }
     ensures { λ r.
         ⌜ ((l : List ℕ) →
         machine (now (values .exit)) (now (picks .exit)) (now (remembered .exit)) l (r .count) (r .moved)
         ≡ Rounds.backup
-        (problemOf (now (file .entry))) tolerance s
-        (machine (now (values .entry)) (now (picks .entry)) (now (remembered .entry)) l (t .count) (t .moved))) ⌝ }
+        (problemOf (now (file .entry))) (terms .tolerance) s
+        (machine (now (values .entry)) (now (picks .entry)) (now (remembered .entry)) l (t .count) (t .moved)))
+        × (r .turned
+        ≡ (t .turned
+        || not (eqb (getD (now (picks .exit)) s 0) (getD (now (picks .entry)) s 0))))
+        × Kept
+        (now (file .entry)) (now (index .entry)) (now (picks .exit)) (now (remembered .exit)) (now (entries .exit)) ⌝ }
 {
     let prev = picks[s];
-    let before = prev as usize;
-    // giving up is best, and what equals it beats it
-    let start = Found {
-        best: give,
-        below: give + 1,
-        pick: GIVE_UP,
-        count: t.count,
-    };
-    let found = scan(file, index, values, remembered, s, before, start);
-    let pick = found.pick;
-    picks[s] = pick;
-    let rose = raise(values, s, found.best, tolerance);
+    let found = scan(
+        file,
+        index,
+        entries,
+        values,
+        picks,
+        remembered,
+        s,
+        terms,
+        t.count,
+    );
+    let rose = raise(values, s, found.best, terms.tolerance);
+    let turned = differs(found.pick, prev);
     Tally {
         count: found.count,
-        moved: moves(t.moved, rose, pick, prev),
+        moved: either(t.moved, either(rose, turned)),
+        turned: either(t.turned, turned),
     }
 }
 
@@ -95,27 +102,36 @@ fn backup(
 pub fn backups(
     file: &[u8],
     index: &[u32],
+    entries: &mut [u32],
     values: &mut [u32],
     picks: &mut [u16],
     remembered: &mut [u32],
     list: &[u16],
     n: usize,
-    tolerance: u32,
-    give: u32,
+    terms: Terms,
     t: Tally,
 ) -> Tally
     requires { ⌜ Backable (now file) (now index) (now values) (now picks) (now remembered)
-        × Listed (now file) (now list) n × (give ≡ giveUpCost (problemOf (now file)))
+        × Kept (now file) (now index) (now picks) (now remembered) (now entries)
+        × Listed (now file) (now list) n × Termed (problemOf (now file)) terms
         × (Rounds.backups
-        (problemOf (now file)) tolerance (take n (now list))
+        (problemOf (now file)) (terms .tolerance) (take n (now list))
         (machine (now values) (now picks) (now remembered) (take n (now list)) (t .count) (t .moved)) .evaluations < countBound) ⌝ }
     ensures { λ r.
-        ⌜ machine
+        ⌜ (machine
         (now (values .exit)) (now (picks .exit)) (now (remembered .exit)) (take n (now (list .entry))) (r .count) (r .moved)
         ≡ Rounds.backups
-        (problemOf (now (file .entry))) tolerance (take n (now (list .entry)))
+        (problemOf (now (file .entry))) (terms .tolerance) (take n (now (list .entry)))
         (machine
-        (now (values .entry)) (now (picks .entry)) (now (remembered .entry)) (take n (now (list .entry))) (t .count) (t .moved)) ⌝ }
+        (now (values .entry)) (now (picks .entry)) (now (remembered .entry)) (take n (now (list .entry))) (t .count) (t .moved)))
+        × (r .turned
+        ≡ (t .turned
+        || turns
+        (problemOf (now (file .entry))) (terms .tolerance) (take n (now (list .entry)))
+        (machine
+        (now (values .entry)) (now (picks .entry)) (now (remembered .entry)) (take n (now (list .entry))) (t .count) (t .moved))))
+        × Kept
+        (now (file .entry)) (now (index .entry)) (now (picks .exit)) (now (remembered .exit)) (now (entries .exit)) ⌝ }
 {
     let mut tally = t;
     let mut i = 0;
@@ -124,12 +140,12 @@ pub fn backups(
         tally = backup(
             file,
             index,
+            entries,
             values,
             picks,
             remembered,
             s,
-            tolerance,
-            give,
+            terms,
             tally,
         );
         i += 1;

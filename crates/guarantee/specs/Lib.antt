@@ -18,6 +18,7 @@ pub mod Numbers
 -- The walk, over any graph and over a problem
 pub mod Graphs
 pub mod Walks
+pub mod Leasts
 -- One state's rows: the traversal, the choice, the scan
 pub mod Rows
 pub mod Traversals
@@ -29,6 +30,7 @@ pub mod Sound
 pub mod Backups
 pub mod Evaluations
 pub mod Underway
+pub mod Rests
 -- The run ends
 pub mod Potential
 pub mod Ending

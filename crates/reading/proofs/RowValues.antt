@@ -15,7 +15,7 @@ use Rattle.model.specs.Sections.{outcomeCountOf}
 use Rattle.model.specs.Value.{weightedSum, rowValue, rowRemainder}
 use Rattle.guarantee.specs.Parts.{outcomes-count}
 use Rattle.guarantee.specs.ReadsBack.{u16-front}
-use Rattle.reading.specs.Ready.{Indexed, Ready, RowReady, SumThere}
+use Rattle.reading.specs.Ready.{Indexed, Ready, RowReady, SumThere, PartThere}
 use Rattle.reading.specs.RowParts.{part-size, part-begins, part-spans, part-inside, part-holds, partFrom, partTo, rows-end}
 use Rattle.reading.specs.Tests.{rowsBase, partOf, partBytes, outcomesIn}
 use Rattle.reading.specs.Bounds.{byteBound, shortBound}
@@ -73,12 +73,20 @@ module _ {f index : List ℕ} {entries r : ℕ} (h : RowReady f index entries r)
       rw (u16-front (partTo index r - partFrom index r) (drop (partFrom index r) f) (4 * i) size, begins)
       (omega (arith, h .ready .successor-there r i (h .row-there) l))
 
-  pub sum-there : SumThere (partOf f index r) entries
+  sum-there : SumThere (partOf f index r) entries
   sum-there =
       let size = part-bytes (h .ready .indexed) r (h .row-there) in
       record {
         few = omega (arith, h .ready .indexed .outcomes-few r);
         there = λ i l. part-successor i (omega arith);
+      }
+
+  pub row-part-there : PartThere f entries (partFrom index r) (partTo index r)
+  row-part-there =
+      record {
+        ordered = omega (arith, part-spans (h .ready .indexed) r (h .row-there));
+        inside = part-inside (h .ready .indexed) r (h .row-there);
+        sums = sum-there;
       }
 
   pub cost-fits : ((i : ℕ) → getD f i 0 < byteBound) → getD index (rowsBase + 2 * r + 1) 0 ≤ ticksPerSecond * secondsBound

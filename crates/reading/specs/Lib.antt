@@ -6,4 +6,5 @@ pub mod Ready
 pub mod Room
 pub mod Begins
 pub mod RowParts
+pub mod Entries
 pub mod Fields

@@ -11,7 +11,7 @@ use Rattle.model.specs.Search.{oneOf}
 use Rattle.model.specs.Sections.{problemOf, outcomeAt, outcomeCountOf}
 use Rattle.model.specs.Questions.{passes, layoutQuestions, undercutState, undercutRow}
 use Rattle.model.specs.Value.{rowTicks}
-use Rattle.reading.specs.Tests.{rowsBase, indexFor}
+use Rattle.reading.specs.Tests.{rowsBase, indexFor, bytesBetween}
 use Rattle.reading.specs.Fields.{Within}
 use Rattle.reading.specs.Bounds.{maxByte}
 
@@ -37,6 +37,12 @@ pub record Ready (f index : List ℕ) : Type 0 where
 pub record SumThere (b : List ℕ) (entries : ℕ) : Type 0 where
   pub few : length b ≤ 4 * maxByte
   pub there : (i : ℕ) → i < length b / 4 → u16At b (4 * i) < entries
+
+-- what the value of a row asks whose outcomes stand from byte `from` up to byte `to`
+pub record PartThere (f : List ℕ) (entries from to : ℕ) : Type 0 where
+  pub ordered : from ≤ to
+  pub inside : to ≤ length f
+  pub sums : SumThere (bytesBetween f from to) entries
 
 -- what the value of row r asks
 pub record RowReady (f index : List ℕ) (entries r : ℕ) : Type 0 where

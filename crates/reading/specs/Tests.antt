@@ -63,10 +63,12 @@ rowEntries starts costs index (suc k) =
 abbrev pub allEntries : (ℕ → ℕ) → (ℕ → ℕ) → List ℕ → ℕ → List ℕ
 allEntries starts costs index n = set (rowEntries starts costs index n) (rowsBase + 2 * n) (starts n)
 
--- the part of the file that the index gives to row r
+-- the part of the file from byte `from` up to byte `to`, and that which the index gives to row r
+abbrev pub bytesBetween : List ℕ → ℕ → ℕ → List ℕ
+bytesBetween f from to = take (to - from) (drop from f)
+
 abbrev pub partOf : List ℕ → List ℕ → ℕ → List ℕ
-partOf f index r =
-    take (getD index (rowsBase + 2 * r + 2) 0 - getD index (rowsBase + 2 * r) 0) (drop (getD index (rowsBase + 2 * r) 0) f)
+partOf f index r = bytesBetween f (getD index (rowsBase + 2 * r) 0) (getD index (rowsBase + 2 * r + 2) 0)
 
 -- the bytes of the file that row r has its outcomes in, up to those of the next row
 abbrev pub partBytes : List ℕ → ℕ → List ℕ
@@ -75,6 +77,9 @@ partBytes f r = take (4 * outcomeCountOf f r) (drop (outcomeAt f r) f)
 -- the outcomes in a part, 4 bytes each
 abbrev pub outcomesIn : List ℕ → List Outcome
 outcomesIn b = outcomesFrom b 0 (length b / 4)
+
+abbrev pub outcomesBetween : List ℕ → ℕ → ℕ → List Outcome
+outcomesBetween f from to = outcomesIn (bytesBetween f from to)
 
 -- what filling in the rows leaves: the sum of the outcome numbers, and the index
 pub record RowsIndexed (f : List ℕ) (i n start : ℕ) (before after : List ℕ) (total : ℕ) : Type 0 where

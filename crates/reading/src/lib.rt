@@ -1,5 +1,6 @@
 // The problem file of document 01: its numbers, where its sections lie, settings, states, the index, the row value.
 // The caller's bytes are read where they lie.
+pub mod entries;
 pub mod index;
 pub mod layout;
 pub mod numbers;

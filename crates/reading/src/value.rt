@@ -15,8 +15,8 @@ ghost use Rattle.model.specs.Limits.{valueBound, weightTotals};
 ghost use Rattle.model.specs.Search.{oneOf};
 ghost use Rattle.model.specs.Sections.{problemOf};
 ghost use Rattle.model.specs.Value.{rowValue, rowRemainder, weightedSum, byState};
-ghost use Rattle.reading.specs.Ready.{Ready, RowReady, SumThere, Undercuts};
-ghost use Rattle.reading.specs.Tests.{outcomesIn};
+ghost use Rattle.reading.specs.Ready.{Ready, RowReady, SumThere, PartThere, Undercuts};
+ghost use Rattle.reading.specs.Tests.{outcomesIn, outcomesBetween};
 ghost use Rattle.reading.specs.Bounds.{shortBound, maxByte};
 
 // w × V(successor), not rounded.
@@ -84,21 +84,37 @@ pub struct RowValue {
     pub remainder: u64,
 }
 
-// The value of row r under `values`: its cost in ticks and the weighted sum, divided by W once; and the remainder.
+// The value of a row whose outcomes stand from byte `from` up to byte `to`, under `values`: its cost in ticks and the weighted sum,
+// divided by W once; and the remainder.
+pub fn part_value(
+    file: &[u8],
+    values: &[u32],
+    from: usize,
+    to: usize,
+    cost: u32,
+    total: u32,
+) -> RowValue
+    requires { ⌜ PartThere (now file) (length (now values)) from to × (oneOf total weightTotals ≡ true) ⌝ }
+    ensures { λ q. ⌜ q .value ≡ cost + weightedSum (outcomesBetween (now (file .entry)) from to) (byState (now (values .entry))) / total ⌝ }
+    ensures remainder { λ q. ⌜ q .remainder ≡ weightedSum (outcomesBetween (now (file .entry)) from to) (byState (now (values .entry))) % total ⌝ }
+{
+    let sum = weighted_sum(&file[from..to], values);
+    let mean = average(sum, total);
+    let value = cost as u64 + mean;
+    let remainder = remainder_of(sum, mean, total);
+    RowValue { value, remainder }
+}
+
+// The value of row r under `values`, and the remainder.
 pub fn row_value(file: &[u8], index: &[u32], values: &[u32], r: usize) -> RowValue
     requires { ⌜ RowReady (now file) (now index) (length (now values)) r ⌝ }
     ensures { λ q. ⌜ q .value ≡ rowValue (problemOf (now (file .entry))) (byState (now (values .entry))) r ⌝ }
     ensures remainder { λ q. ⌜ q .remainder ≡ rowRemainder (problemOf (now (file .entry))) (byState (now (values .entry))) r ⌝ }
 {
     let from = index[ROWS + 2 * r] as usize;
-    let cost = index[ROWS + 2 * r + 1] as u64;
+    let cost = index[ROWS + 2 * r + 1];
     let to = index[ROWS + 2 * r + 2] as usize;
-    let sum = weighted_sum(&file[from..to], values);
-    let total = total_of(file);
-    let mean = average(sum, total);
-    let value = cost + mean;
-    let remainder = remainder_of(sum, mean, total);
-    RowValue { value, remainder }
+    part_value(file, values, from, to, cost, total_of(file))
 }
 
 // Whether the value of row r lies below `value`. It is at least the row's cost, so a `value` up to that needs no sum.

@@ -1,15 +1,15 @@
 -- From the questions to the answer: what questions 1 to 13 give, how the tables begin, and that a run's end is the solution.
 -- The run in the tables as they begin is the model's, since these are the machine as it starts.
 use mathlib.Core.Path.{_≡_, refl, sym, _∙_, ap, subst}
-use Prim.Native.Nat.{ℕ, _≤_, _<_}
+use Prim.Native.Nat.{ℕ, _+_, _*_, _≤_, _<_}
 use native.Mathlib.Omega.{arith}
-use mathlib.Core.Bool.{Bool, true, false}
+use mathlib.Core.Bool.{Bool, true, false, true≢false}
 use mathlib.Core.List.{List, []}
 use lib.IntN.{pos}
-use lib.ListN.{length, take}
+use lib.ListN.{getD, length, take, replicate, length-replicate}
 use Rattle.model.specs.Carried.{Carried, refusal}
 use Rattle.model.specs.Limits.{noPick}
-use Rattle.model.specs.Problem.{Problem}
+use Rattle.model.specs.Problem.{Problem, ownRow}
 use Rattle.model.specs.Promises.{Leaves}
 use Rattle.model.specs.Questions.{passes, fails, fileQuestions}
 use Rattle.model.specs.Sections.{problemOf}
@@ -22,12 +22,18 @@ use Rattle.guarantee.specs.WellFormed.{well-formed}
 use Rattle.guarantee.specs.Values.{rowValue-same-states}
 use Rattle.guarantee.specs.Tables.{fill-length, fill-entry}
 use Rattle.guarantee.specs.Sound.{Sound, evaluation-fits}
+use Rattle.guarantee.specs.Graphs.{clear-entry}
+use Rattle.guarantee.specs.Rests.{rest-none}
+use Rattle.guarantee.specs.Rows.{row-no-mark}
 use Rattle.guarantee.specs.Solutions.{Lent, questions, lent-long, lent-sound, solution-run, solution-refused}
+use Rattle.reading.specs.Entries.{codeOn}
+use Rattle.reading.specs.RowParts.{own-at}
+use Rattle.reading.specs.Tests.{ownAt}
 use Rattle.walking.specs.Walkable.{walkable}
-use Rattle.backing.specs.Backable.{machine, Scannable}
+use Rattle.backing.specs.Backable.{machine, Scannable, Kept}
 use Rattle.solving.specs.declared.run.Ended.{Ended}
-use Rattle.solving.specs.Runs.{machineWith, endedAs, Runnable, Ran}
-use Rattle.solving.specs.Solvable.{solveTests, runCarries, Solvable}
+use Rattle.solving.specs.Runs.{machineWith, endedAs, atFirst, Runnable, Ran}
+use Rattle.solving.specs.Solvable.{solveTests, runCarries, Solvable, Unentered}
 use Rattle.solving.proofs.Filling.{fill-same}
 
 -- the machine as it starts in lent tables
@@ -96,12 +102,39 @@ module _ {f index : List ℕ} {budget : ℕ} {t : Tables} {states rows : ℕ} {v
       h .kept ∙ rw (h .rows-count) (fill-same _ _ (t .remembered) (problemOf f .rows) under-estimates) in
       rw (same, h .filled, h .cleared, h .states-count) refl
 
-  pub start-runnable : {list : List ℕ} → problemOf f .states ≤ length list → Runnable f index (tables values′ picks′ remembered′ list)
-  start-runnable list-long =
+  -- no state has a pick, so that entries of 0 fit
+  none-picked : (s : ℕ) → s < problemOf f .states → getD picks′ s 0 ≡ noPick
+  none-picked s l =
+      rw (h .cleared, h .states-count) (fill-entry (λ s. noPick) (t .picks) (problemOf f .states) s (long (h .solvable) .picks-long) l)
+
+  none-own : (s : ℕ) → s < problemOf f .states → ownAt index s (getD picks′ s 0) ≡ false
+  none-own s l = own-at f index (h .solvable .ready) s l (getD picks′ s 0) ∙ go (ownRow (problemOf f) s (getD picks′ s 0)) refl
+    where
+      go : (b : Bool) → ownRow (problemOf f) s (getD picks′ s 0) ≡ b → b ≡ false
+      go true own = absurd (omega (arith, none-picked s l, row-no-mark (problemOf f) formed s (getD picks′ s 0) l own))
+      go false own = refl
+
+  start-kept : {entries : List ℕ} → Unentered f entries → Kept f index picks′ remembered′ entries
+  start-kept {entries} none =
+      record {
+        entered =
+            record {
+              long = none .long;
+              codes = λ s l. none .clear (2 * s) ∙ sym (ap (λ b. codeOn b index (getD picks′ s 0)) (none-own s l));
+            };
+        rests = λ s l. rw (none .clear (2 * s + 1)) (rest-none formed);
+      }
+
+  pub start-runnable
+      : {list entries : List ℕ} → problemOf f .states ≤ length list → Unentered f entries
+      → Runnable f index (tables values′ picks′ remembered′ list) entries atFirst
+  start-runnable list-long none =
       record {
         walkable = walkable (h .solvable .file-passes) (h .solvable .ready);
         sound = subst (Sound (problemOf f)) (sym begun) (lent-sound f budget t (h .solvable .file-passes) (h .solvable .tables-pass));
+        kept = start-kept none;
         list-long = list-long;
+        fresh = λ e. absurd (true≢false e);
       }
 
   -- the run's end, once the lent walk list has what the run listed
@@ -138,6 +171,10 @@ module _ {f index : List ℕ} {budget : ℕ} {t : Tables} {states rows : ℕ} {v
             (solutionOf (problemOf f) (t .walk-list) (endedAs b (d .counts .rounds) last))
         go true q c = record { answer = c ∙ rw (ran .least q) refl; left = rw same-list refl }
         go false q c = record { answer = c ∙ rw (ran .no-least q) refl; left = rw same-list refl }
+
+-- entries that were made so, two for each of n states
+pub made-clear : {f : List ℕ} (n : ℕ) → problemOf f .states ≤ n → Unentered f (replicate (2 * n) 0)
+made-clear {f} n few = record { long = omega (arith, length-replicate {A = ℕ} (2 * n) 0); clear = clear-entry (2 * n) }
 
 -- a no to questions 1 to 13: "no table has changed"
 refusal-leaves

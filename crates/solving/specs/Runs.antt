@@ -1,11 +1,11 @@
 -- What a round and a run are asked, and what they leave: the model's round, and how the model's run ends.
--- The walk list is its first entries, as many as the last walk listed.
+-- The walk list is its first entries, as many as the last walk listed; where no pick changed since, it is the walk of the picks as they are.
 use mathlib.Core.Path.{_≡_}
 use Prim.Native.Nat.{ℕ, _≤_}
 use mathlib.Core.Bool.{Bool, true, false}
 use mathlib.Core.List.{List, []}
 use lib.ListN.{length, take}
-use Rattle.model.specs.Problem.{Problem, giveUpCost}
+use Rattle.model.specs.Problem.{Problem}
 use Rattle.model.specs.Sections.{problemOf}
 use Rattle.model.specs.Value.{byState}
 use Rattle.model.specs.Walk.{leastCost}
@@ -15,7 +15,9 @@ use Rattle.model.specs.declared.Kind.{Kind}
 use Rattle.model.specs.declared.Kind.the-variants.{Plain, Finishing}
 use Rattle.guarantee.specs.Sound.{SoundTables}
 use Rattle.walking.specs.Walkable.{Walkable}
-use Rattle.backing.specs.Backable.{machine}
+use Rattle.walking.specs.Led.{WalkedBy}
+use Rattle.backing.specs.Backable.{machine, Kept}
+use Rattle.solving.specs.declared.run.Standing.{Standing}
 use Rattle.solving.specs.declared.run.RoundDone.{RoundDone}
 use Rattle.solving.specs.declared.run.Ended.{Ended}
 
@@ -28,26 +30,31 @@ abbrev pub endedAs : Bool → ℕ → Machine → Ending
 endedAs true n m = solved n m
 endedAs false n m = spent n m
 
--- what a round stands on
-pub record Runnable (f index : List ℕ) (t : Tables) : Type 0 where
+-- what a round stands on: entries that fit, and a list that is still the walk by them unless a pick changed
+pub record Runnable (f index : List ℕ) (t : Tables) (entries : List ℕ) (standing : Standing) : Type 0 where
   pub walkable : Walkable f index
   pub sound : SoundTables (problemOf f) (t .values) (t .picks) (t .remembered)
+  pub kept : Kept f index (t .picks) (t .remembered) entries
   pub list-long : problemOf f .states ≤ length (t .walk-list)
+  pub fresh : standing .turned ≡ false → WalkedBy f entries (t .walk-list) (standing .listed)
 
--- the numbers of the problem that a round is handed
-pub record Given (p : Problem) (n cost : ℕ) : Type 0 where
-  pub states : n ≡ p .states
-  pub give : cost ≡ giveUpCost p
+-- where a run stands before its first round
+abbrev pub atFirst : Standing
+atFirst = record { count = 0; listed = 0; turned = true }
 
 -- a round done: the tables, the first `listed` entries of the walk list and the counts are those of the model's round;
--- where nothing moved C is that of the picks, else 0; the list still has an entry for each state
-pub record Rounded (p : Problem) (e : ℕ) (t : Tables) (count : ℕ) (t′ : Tables) (r : RoundDone) : Type 0 where
+-- where nothing moved C is that of the picks, else 0; and another round may follow
+pub record Rounded
+    (f index : List ℕ) (e : ℕ) (t : Tables) (count : ℕ) (t′ : Tables) (entries′ : List ℕ) (r : RoundDone) : Type 0 where
   pub same : (l : List ℕ) (b : Bool)
-      → machineWith t′ (take (r .listed) (t′ .walk-list)) (r .count) (r .moved) ≡ round p e (machineWith t l count b)
-  pub least : r .moved ≡ false → r .least ≡ leastCost p (byState (t′ .picks))
+      → machineWith t′ (take (r .standing .listed) (t′ .walk-list)) (r .standing .count) (r .moved)
+      ≡ round (problemOf f) e (machineWith t l count b)
+  pub least : r .moved ≡ false → r .least ≡ leastCost (problemOf f) (byState (t′ .picks))
   pub no-least : r .moved ≡ true → r .least ≡ 0
-  pub few : r .listed ≤ p .states
-  pub list-long : p .states ≤ length (t′ .walk-list)
+  pub few : r .standing .listed ≤ problemOf f .states
+  pub list-long : problemOf f .states ≤ length (t′ .walk-list)
+  pub kept : Kept f index (t′ .picks) (t′ .remembered) entries′
+  pub fresh : r .standing .turned ≡ false → WalkedBy f entries′ (t′ .walk-list) (r .standing .listed)
 
 -- the kind of a run that is to go on after its first quiet round, or not
 abbrev pub goingOn : Bool → Kind

@@ -1,10 +1,11 @@
 -- What solving a file stands on: questions 12 and 13 as tests of lengths, what a run that ended carries, a file that may be run, and what
 -- a call leaves, the lent index included.
 use mathlib.Core.Path.{_≡_}
-use Prim.Native.Nat.{ℕ}
+use Prim.Native.Nat.{ℕ, _*_, _≤_}
 use mathlib.Core.Bool.{Bool, true, false}
 use mathlib.Core.List.{List}
 use lib.Dec.{leb}
+use lib.ListN.{getD, length}
 use Rattle.model.specs.Carried.{Said, Carried, ended}
 use Rattle.model.specs.Limits.{maxBudget}
 use Rattle.model.specs.Questions.{Verdict, passes, _then_, ask, fileQuestions}
@@ -35,6 +36,11 @@ pub record Solvable (f index : List ℕ) (budget : ℕ) (t : Tables) : Type 0 wh
   pub file-passes : fileQuestions f ≡ passes
   pub tables-pass : solveQuestions (problemOf f) budget t ≡ passes
   pub ready : Ready f index
+
+-- entries for each state, all of them 0: no row is picked, and 0 serves as every rest
+pub record Unentered (f entries : List ℕ) : Type 0 where
+  pub long : 2 * problemOf f .states ≤ length entries
+  pub clear : (i : ℕ) → getD entries i 0 ≡ 0
 
 -- what a call answers and leaves; the index as questions 1 to 11 leave it, and that of the file where there was a run
 pub record FileSolved

@@ -6,10 +6,12 @@ use crate::lent::remember;
 use crate::lent::solve_questions;
 use crate::run::Ended;
 use crate::run::run;
+use backing::Terms;
 use checking::questions::questions;
 use model::FileAnswer;
 use model::Kind;
 use model::LIST_END;
+use model::MAX_STATES;
 use model::SolveAnswer;
 use reading::index::has_few_rows;
 use reading::index::large_index;
@@ -25,7 +27,10 @@ ghost use Rattle.model.specs.Promises.{Leaves, EndsSolved, PassesAudit, Finishe
 ghost use Rattle.model.specs.Solution.{tables, solution};
 ghost use Rattle.model.specs.declared.Kind.the-variants.{Finishing};
 ghost use Rattle.reading.specs.Room.{IndexRoom};
-ghost use Rattle.solving.specs.Solvable.{runCarries, Solvable, FileSolved};
+ghost use Rattle.solving.specs.Solvable.{runCarries, Solvable, Unentered, FileSolved};
+
+// A run on a file of at most so many states has few entries, and does not pay for clearing those of states that there are not.
+const FEW_STATES: usize = 256;
 
 // The answer of a run that ended.
 fn answer(end: Ended) -> SolveAnswer
@@ -39,7 +44,57 @@ fn answer(end: Ended) -> SolveAnswer
     }
 }
 
-// Solves a file that questions 1 to 13 let through. The walks list into an array of the run's own, and the walk list gets the last.
+// Solves a file that questions 1 to 13 let through, with entries that are all 0. The walks list into an array of the run's own, and the
+// walk list gets the last.
+fn solve_entered(
+    kind: Kind,
+    file: &[u8],
+    index: &[u32],
+    entries: &mut [u32],
+    budget: u64,
+    values: &mut [u32],
+    picks: &mut [u16],
+    remembered: &mut [u32],
+    list: &mut [u16],
+) -> SolveAnswer
+    requires { ⌜ Solvable (now file) (now index) budget (tables (now values) (now picks) (now remembered) (now list))
+        × Unentered (now file) (now entries) ⌝ }
+    ensures { λ r.
+        ⌜ Leaves
+        (solveCarries r) (tables (now (values .exit)) (now (picks .exit)) (now (remembered .exit)) (now (list .exit)))
+        (solution
+        kind (now (file .entry)) budget
+        (tables (now (values .entry)) (now (picks .entry)) (now (remembered .entry)) (now (list .entry)))) ⌝ }
+{
+    let l = layout_of(file);
+    let set = settings_of(file);
+    let states = l.states;
+    estimates(file, states, values);
+    no_picks(picks, states);
+    remember(file, index, values, remembered, l.rows);
+    let terms = Terms {
+        tolerance: set.tolerance,
+        give: give_up_cost(file),
+        total: set.total,
+    };
+    let mut listed = [LIST_END; MARKS];
+    let end = run(
+        kind,
+        file,
+        index,
+        entries,
+        values,
+        picks,
+        remembered,
+        &mut listed,
+        terms,
+        budget,
+    );
+    put_list(&listed, end.listed, states, list);
+    answer(end)
+}
+
+// Makes the entries of a run, few for a file of few states, and solves the file.
 fn solve_ready(
     kind: Kind,
     file: &[u8],
@@ -59,28 +114,32 @@ fn solve_ready(
         (tables (now (values .entry)) (now (picks .entry)) (now (remembered .entry)) (now (list .entry)))) ⌝ }
 {
     let l = layout_of(file);
-    let set = settings_of(file);
-    let states = l.states;
-    estimates(file, states, values);
-    no_picks(picks, states);
-    remember(file, index, values, remembered, l.rows);
-    let give = give_up_cost(file);
-    let mut listed = [LIST_END; MARKS];
-    let end = run(
+    if l.states <= FEW_STATES {
+        let mut entries = [0; 2 * FEW_STATES];
+        return solve_entered(
+            kind,
+            file,
+            index,
+            &mut entries,
+            budget,
+            values,
+            picks,
+            remembered,
+            list,
+        );
+    }
+    let mut entries = [0; 2 * MAX_STATES];
+    solve_entered(
         kind,
         file,
         index,
+        &mut entries,
+        budget,
         values,
         picks,
         remembered,
-        &mut listed,
-        states,
-        set.tolerance,
-        give,
-        budget,
-    );
-    put_list(&listed, end.listed, states, list);
-    answer(end)
+        list,
+    )
 }
 
 // Questions 1 to 13 about a file, a budget and four lent tables, and the run where they let it be. The index is that of the file

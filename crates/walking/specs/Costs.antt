@@ -11,6 +11,7 @@ use Rattle.model.specs.Sections.{problemOf}
 use Rattle.model.specs.Value.{byState}
 use Rattle.model.specs.Walk.{pickCost, leastOn}
 use Rattle.reading.specs.Tests.{rowsBase}
+use Rattle.walking.specs.Walkable.{Walkable}
 
 -- the limit where a pick gives up, else what the index says of its row
 pub record PickCosts (index : List ℕ) (pick limit r : ℕ) : Type 0 where
@@ -27,3 +28,17 @@ pub record Costed (f picks marks : List ℕ) : Type 0 where
 abbrev pub lowerTo : List ℕ → List ℕ → List ℕ → ℕ → ℕ → ℕ
 lowerTo f picks marks s least =
     leastOn (not (problemOf f .goal s) && not (eqb (getD marks s 0) 0)) (pickCost (problemOf f) (byState picks) s) least
+
+-- no pick costs so much: the largest number of 32 bits
+abbrev pub noCost : ℕ
+noCost = 4294967295
+
+-- each of the first n states of the list has an entry in the picks, and gives up there or picks a row of the file
+pub record ListCosted (f index picks list : List ℕ) (n : ℕ) : Type 0 where
+  pub walkable : Walkable f index
+  pub few : n ≤ problemOf f .states
+  pub list-long : n ≤ length list
+  pub picks-long : problemOf f .states ≤ length picks
+  pub listed : (i : ℕ) → i < n → getD list i 0 < problemOf f .states
+  pub costs : (i : ℕ) → i < n
+      → (getD picks (getD list i 0) 0 ≡ giveUp) ⊎ (getD picks (getD list i 0) 0 < problemOf f .rows)

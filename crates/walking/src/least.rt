@@ -8,15 +8,19 @@ use reading::states::is_goal;
 ghost use mathlib.Core.Path.{_≡_};
 ghost use Prim.Native.Nat.{_+_, _*_, _<_};
 ghost use mathlib.Core.Logic.{_⊎_};
-ghost use lib.ListN.{length, getD};
+ghost use lib.ListN.{length, getD, take};
 ghost use Rattle.model.specs.Limits.{giveUp};
 ghost use Rattle.model.specs.Problem.{giveUpCost};
 ghost use Rattle.model.specs.Sections.{problemOf};
 ghost use Rattle.model.specs.Value.{byState};
 ghost use Rattle.model.specs.Walk.{leastTo};
+ghost use Rattle.guarantee.specs.Leasts.{leastOver};
 ghost use Rattle.reading.specs.Tests.{rowsBase};
 ghost use Rattle.walking.specs.Walkable.{Walkable};
-ghost use Rattle.walking.specs.Costs.{PickCosts, Costed, lowerTo};
+ghost use Rattle.walking.specs.Costs.{PickCosts, Costed, ListCosted, lowerTo, noCost};
+
+// No cost is above it: the least of no picks.
+const NO_COST: u32 = 4294967295;
 
 // What a pick costs: the limit where it gives up, else its row's cost in ticks.
 fn pick_cost(index: &[u32], pick: u16, limit: u32) -> u32
@@ -65,6 +69,24 @@ pub fn least_cost(file: &[u8], index: &[u32], picks: &[u16], marks: &[u8; MARKS]
     while s < n {
         least = lower(file, index, picks, marks, limit, s, least);
         s += 1;
+    }
+    least
+}
+
+// The least cost of the picks at the first n states of a list.
+pub fn least_listed(file: &[u8], index: &[u32], picks: &[u16], list: &[u16; MARKS], n: usize) -> u32
+    requires { ⌜ ListCosted (now file) (now index) (now picks) (now list) n ⌝ }
+    ensures { λ r. ⌜ r ≡ leastOver (problemOf (now (file .entry))) (byState (now (picks .entry))) (take n (now (list .entry))) noCost ⌝ }
+{
+    let limit = give_up_cost(file);
+    let mut least = NO_COST;
+    let mut i = 0;
+    while i < n {
+        let cost = pick_cost(index, picks[list[i] as usize], limit);
+        i += 1;
+        if cost < least {
+            least = cost;
+        }
     }
     least
 }

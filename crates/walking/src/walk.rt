@@ -1,5 +1,6 @@
 // "Walk from the start with the picks as they are": visit_state and visit_outcomes call each other.
 use model::MAX_STATES;
+use reading::entries::Part;
 use reading::index::ROWS;
 use reading::index::is_own;
 use reading::numbers::u16_at;
@@ -12,18 +13,12 @@ ghost use lib.ListN.{length, getD};
 ghost use Rattle.model.specs.Questions.{passes, layoutQuestions};
 ghost use Rattle.model.specs.Sections.{problemOf};
 ghost use Rattle.reading.specs.Tests.{rowsBase};
-ghost use Rattle.walking.specs.Trails.{Picked, Outcomes, Under, Over, visitedState, visitedOutcomes};
+ghost use Rattle.walking.specs.Trails.{Picked, Outcomes, pickedBy, Under, OverState, OverOutcomes};
 ghost use Rattle.walking.specs.Walkable.{Walkable};
 ghost use Rattle.walking.specs.Walked.{Walked};
 
 // "Each walk then begins with 2,048 marks": one for each state that a file can have.
 pub const MARKS: usize = MAX_STATES;
-
-// A part of the file, from a byte up to another.
-struct Part {
-    from: usize,
-    to: usize,
-}
 
 fn wide(x: u32) -> usize
     ensures { λ r. ⌜ r ≡ x ⌝ }
@@ -56,7 +51,7 @@ fn picked(index: &[u32], s: usize, pick: u32) -> Part
 
 // Whether state s, whose picked outcomes stand from byte `from` up to byte `to`, is no goal. A goal has no rows, so where there are
 // outcomes its bytes need not be read.
-fn no_goal(file: &[u8], from: usize, to: usize, s: usize) -> bool
+pub fn no_goal(file: &[u8], from: usize, to: usize, s: usize) -> bool
     requires { ⌜ (layoutQuestions (now file) ≡ passes) × (s < problemOf (now file) .states)
         × (from < to → problemOf (now file) .goal s ≡ false) ⌝ }
     ensures { λ r. ⌜ r ≡ not (problemOf (now (file .entry)) .goal s) ⌝ }
@@ -78,11 +73,11 @@ fn visit_state(
     s: usize,
     n: usize,
 ) -> usize
-    requires { ⌜ Under (now file) (now index) (now picks) (now marks) (now list) n
-        × (s < problemOf (now file) .states) × (getD (now marks) s 0 ≡ 0) ⌝ }
+    requires { ⌜ Walkable (now file) (now index) × (problemOf (now file) .states ≤ length (now picks))
+        × Under (now file) (now marks) (now list) n × (s < problemOf (now file) .states) × (getD (now marks) s 0 ≡ 0) ⌝ }
     ensures { λ r.
-        ⌜ Over
-        (now (file .entry)) (now (picks .entry)) (visitedState (now (file .entry)) (now (picks .entry)) s)
+        ⌜ OverState
+        (now (file .entry)) (pickedBy (now (file .entry)) (now (picks .entry))) s
         (now (marks .entry)) (now (list .entry)) n (now (marks .exit)) (now (list .exit)) r ⌝ }
 {
     marks[s] = 1;
@@ -106,10 +101,11 @@ fn visit_outcomes(
     to: usize,
     n: usize,
 ) -> usize
-    requires { ⌜ Under (now file) (now index) (now picks) (now marks) (now list) n × Outcomes (now file) from to ⌝ }
+    requires { ⌜ Walkable (now file) (now index) × (problemOf (now file) .states ≤ length (now picks))
+        × Under (now file) (now marks) (now list) n × Outcomes (now file) from to ⌝ }
     ensures { λ r.
-        ⌜ Over
-        (now (file .entry)) (now (picks .entry)) (visitedOutcomes (now (file .entry)) (now (picks .entry)) from to)
+        ⌜ OverOutcomes
+        (now (file .entry)) (pickedBy (now (file .entry)) (now (picks .entry))) from to
         (now (marks .entry)) (now (list .entry)) n (now (marks .exit)) (now (list .exit)) r ⌝ }
 {
     let mut i = from;

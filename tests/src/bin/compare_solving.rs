@@ -14,7 +14,7 @@ use comparisons::extremes::{at_limits, dearest_row, deep_chain, deepest, sized};
 use comparisons::finishing::{
     coarse, giving_up, inexact_states, most_rounds, settling_chain, wavering, with_tolerance,
 };
-use comparisons::harness::{answer_length, argument, close_all, noise, Tally};
+use comparisons::harness::{answer_length, argument, close_all, lent_tables, noise, Tally};
 use comparisons::library::{
     self, asked_of_audit, asked_of_lent, asked_of_run, ACCEPTED, ANSWER, REFUSED, SOLVED, SPENT,
     TOO_SHORT,
@@ -104,26 +104,6 @@ const TIES: [(&str, u64, fn(&Ties) -> u64); 7] = [
     ("compared with a pick kept at a tie with an earlier row", 1_000, |ties| ties.kept),
 ];
 
-/// Tables of noise: mostly longer than needed, or just long enough, or one of them short.
-fn lent(random: &mut Random, states: usize, rows: usize) -> OwnedTables {
-    let mut lengths = [states, states, rows, states];
-    match random.below(8) {
-        0 => {
-            let table = random.below(lengths.len());
-            lengths[table] = lengths[table].saturating_sub(1);
-        }
-        1 => lengths.iter_mut().for_each(|length| *length -= random.below(2).min(*length)),
-        2..=3 => {}
-        _ => lengths.iter_mut().for_each(|length| *length += random.below(20)),
-    }
-    OwnedTables {
-        values: noise(random, lengths[0]),
-        picks: noise(random, lengths[1]),
-        remembered: noise(random, lengths[2]),
-        walk: noise(random, lengths[3]),
-    }
-}
-
 /// A run that ends soon: its rounds and its tables.
 struct Ended {
     rounds: u64,
@@ -184,7 +164,7 @@ impl Comparison {
     ) -> (u8, OwnedTables) {
         let tally = &mut self.tally;
         tally.case = format!("{}, budget {budget}", self.case);
-        let mut given = lent(random, sizes[0], sizes[1]);
+        let mut given = lent_tables(random, sizes[0], sizes[1]);
         let mut asked = given.clone();
         let length = answer_length(random);
         let mut given_answer: Vec<u64> = noise(random, length);

@@ -1,7 +1,7 @@
--- `solve_ready` leaves the model's solution: the tables as the machine begins, its run, the list put, what the run carries.
+-- `solve_ready` makes entries, all 0, for as many states as there can be.
 -- Made by `places make` from answers/solve/solve_ready.ans: edit that file, and not this one.
-use mathlib.Core.Path.{_∙_}
-use Rattle.solving.proofs.Answering.{solvable-formed, long, start-scannable, tables-begun, start-runnable, run-leaves}
+use Rattle.model.specs.Limits.{maxStates}
+use Rattle.solving.proofs.Answering.{solvable-formed, made-clear}
 use borrow.Author.Needs.{needs}
 use native.Mathlib.Omega.{arith}
 use Rattle.solving.proofs.solve.solve_ready.Statement.{statement}
@@ -10,86 +10,65 @@ use Rattle.solving.proofs.solve.solve_ready.Tie as tie
 layout-of-requires : tie.Need-layout-of-requires
 layout-of-requires c κs = c .before .before .before .before .before .before .pre .ready .indexed .whole
 
-settings-of-requires : tie.Need-settings-of-requires
-settings-of-requires c κs = c .before .before .before .before .before .before .before .pre .ready .indexed .whole
+slice-aggregate-solve-entered : tie.Need-slice-aggregate-solve-entered
+slice-aggregate-solve-entered c = search needs
 
-estimates-requires : tie.Need-estimates-requires
-estimates-requires c κs = (
-  c .before .before .before .before .before .before .before .before .before .pre .ready .indexed .whole,
-  c .before .before .layout-of .ensures .states-are,
-  omega (arith, c .before .before .layout-of .ensures .states-are, long (c .before .before .before .before .before .before .before .before .before .pre) .values-long),
-)
-
-no-picks-requires : tie.Need-no-picks-requires
-no-picks-requires c κs = omega (arith, c .before .before .before .before .before .before .layout-of .ensures .states-are, long (c .before .before .before .before .before .before .before .before .before .before .before .before .before .pre) .picks-long)
-
-remember-requires : tie.Need-remember-requires
-remember-requires c κs = (
-  start-scannable (c .before .before .before .before .before .before .before .before .before .before .before .before .before .before .before .before .before .before .pre) (c .before .before .before .before .before .before .before .before .before .before .before .layout-of .ensures .states-are) (c .before .before .before .before .before .before .before .before .estimates .ensures),
-  omega (arith, c .before .before .before .before .before .before .before .before .before .before .before .layout-of .ensures .rows-are),
-)
-
-give-up-cost-requires : tie.Need-give-up-cost-requires
-give-up-cost-requires c κs = (c .before .before .before .before .before .before .before .before .before .before .before .before .before .before .before .before .before .before .before .before .before .pre .ready .indexed .whole, solvable-formed (c .before .before .before .before .before .before .before .before .before .before .before .before .before .before .before .before .before .before .before .before .before .pre) .penalty-high)
-
-run-requires : tie.Need-run-requires
-run-requires c κs =
-    let l = c .before .before .before .before .before .before .before .before .before .before .before .before .before .before .before .before .before .before .before .layout-of .ensures in (
-      start-runnable
-          (tables-begun (c .before .before .before .before .before .before .before .before .before .before .before .before .before .before .before .before .before .before .before .before .before .before .before .before .before .before .pre) (l .states-are) (l .rows-are) (c .before .before .before .before .before .before .before .before .before .before .before .before .before .before .before .before .estimates .ensures) (c .before .before .before .before .before .before .before .before .before .before .before .before .no-picks .ensures) (c .before .before .before .before .before .before .before .remember .ensures))
-          (omega (arith, solvable-formed (c .before .before .before .before .before .before .before .before .before .before .before .before .before .before .before .before .before .before .before .before .before .before .before .before .before .before .pre) .states-high)),
-      record { states = l .states-are; give = c .before .before .before .before .give-up-cost .ensures },
-      long (c .before .before .before .before .before .before .before .before .before .before .before .before .before .before .before .before .before .before .before .before .before .before .before .before .before .before .pre) .budget-high,
-    )
-
-put-list-requires : tie.Need-put-list-requires
-put-list-requires c κs = (
-  omega (arith, c .before .before .before .before .before .before .before .before .before .before .before .before .before .before .before .before .before .before .before .before .before .before .before .before .before .before .before .before .layout-of .ensures .states-are, c .before .before .before .before .before .before .before .before .run .ensures .few),
-  omega (arith, c .before .before .before .before .before .before .before .before .before .before .before .before .before .before .before .before .before .before .before .before .before .before .before .before .before .before .before .before .layout-of .ensures .states-are, solvable-formed (c .before .before .before .before .before .before .before .before .before .before .before .before .before .before .before .before .before .before .before .before .before .before .before .before .before .before .before .before .before .before .before .before .before .before .before .pre) .states-high),
-  omega (arith, c .before .before .before .before .before .before .before .before .before .before .before .before .before .before .before .before .before .before .before .before .before .before .before .before .before .before .before .before .layout-of .ensures .states-are, c .before .before .before .before .before .before .before .before .run .ensures .list-long),
-  omega (arith, c .before .before .before .before .before .before .before .before .before .before .before .before .before .before .before .before .before .before .before .before .before .before .before .before .before .before .before .before .layout-of .ensures .states-are, long (c .before .before .before .before .before .before .before .before .before .before .before .before .before .before .before .before .before .before .before .before .before .before .before .before .before .before .before .before .before .before .before .before .before .before .before .pre) .list-long),
-)
-
-answer-requires : tie.Need-answer-requires
-answer-requires c κs = search needs
+solve-entered-requires : tie.Need-solve-entered-requires
+solve-entered-requires c κs =
+    (c .before .before .before .before .before .before .before .before .before .before .before .before .before .before .pre, made-clear 256 (omega (arith, c .before .before .before .before .before .before .before .layout-of .ensures .states-are, c .before .before .before .before .before .if1 .taken)))
 
 same-length : tie.Need-same-length
-same-length c = c .before .before .before .before .before .before .before .before .before .before .before .before .run .kept .1 .1 .1 .0 ∙ (c .before .before .before .before .before .before .before .before .before .before .before .before .before .before .before .before .before .before .before .before .before .before .before .before .before .before .before .before .before .estimates .kept .1 .1 .0)
+same-length c = c .before .before .before .before .before .before .before .before .before .solve-entered .kept .1 .1 .1 .1 .1 .0
 
 same-length-2 : tie.Need-same-length-2
-same-length-2 c = c .before .before .before .before .before .before .before .before .before .before .before .before .run .kept .1 .1 .1 .1 .0 ∙ (c .before .before .before .before .before .before .before .before .before .before .before .before .before .before .before .before .before .before .before .before .before .before .before .before .before .no-picks .kept .0)
+same-length-2 c = c .before .before .before .before .before .before .before .before .before .solve-entered .kept .1 .1 .1 .1 .1 .1 .0
 
 same-length-3 : tie.Need-same-length-3
-same-length-3 c = c .before .before .before .before .before .before .before .before .before .before .before .before .run .kept .1 .1 .1 .1 .1 .0 ∙ (c .before .before .before .before .before .before .before .before .before .before .before .before .before .before .before .before .before .before .before .before .remember .kept .1 .1 .1 .0)
+same-length-3 c = c .before .before .before .before .before .before .before .before .before .solve-entered .kept .1 .1 .1 .1 .1 .1 .1 .0
 
 same-length-4 : tie.Need-same-length-4
-same-length-4 c = c .before .before .before .put-list .kept .1 .1 .1 .0
+same-length-4 c = c .before .before .before .before .before .before .before .before .before .solve-entered .kept .1 .1 .1 .1 .1 .1 .1 .1 .0
 
 returns : tie.Need-returns
-returns c =
-    let l = c .before .before .before .before .before .before .before .before .before .before .before .before .before .before .before .before .before .before .before .before .before .before .before .before .before .before .before .before .before .before .before .before .layout-of .ensures in
-    run-leaves
-    (tables-begun (c .before .before .before .before .before .before .before .before .before .before .before .before .before .before .before .before .before .before .before .before .before .before .before .before .before .before .before .before .before .before .before .before .before .before .before .before .before .before .before .pre) (l .states-are) (l .rows-are) (c .before .before .before .before .before .before .before .before .before .before .before .before .before .before .before .before .before .before .before .before .before .before .before .before .before .before .before .before .before .estimates .ensures) (c .before .before .before .before .before .before .before .before .before .before .before .before .before .before .before .before .before .before .before .before .before .before .before .before .before .no-picks .ensures) (c .before .before .before .before .before .before .before .before .before .before .before .before .before .before .before .before .before .before .before .before .remember .ensures))
-    (c .before .before .before .before .before .before .before .before .before .before .before .before .before .before .before .before .before .before .before .before .before .before .before .before .before .before .before .before .before .before .before .settings-of .ensures .tolerance-is)
-    (c .before .before .before .before .before .before .before .before .before .before .before .before .run .ensures)
-    (c .before .before .before .put-list .ensures)
-    (c .answer .ensures)
+returns c = c .before .before .before .before .before .before .before .before .before .solve-entered .ensures
+
+slice-aggregate-solve-entered-2 : tie.Need-slice-aggregate-solve-entered-2
+slice-aggregate-solve-entered-2 c = search needs
+
+solve-entered-requires-2 : tie.Need-solve-entered-requires-2
+solve-entered-requires-2 c κs = (c .before .before .before .before .before .before .before .before .before .before .before .before .before .before .pre, made-clear maxStates (solvable-formed (c .before .before .before .before .before .before .before .before .before .before .before .before .before .before .pre) .states-high))
+
+same-length-5 : tie.Need-same-length-5
+same-length-5 c = c .before .before .before .before .before .before .before .before .before .solve-entered2 .kept .1 .1 .1 .1 .1 .0
+
+same-length-6 : tie.Need-same-length-6
+same-length-6 c = c .before .before .before .before .before .before .before .before .before .solve-entered2 .kept .1 .1 .1 .1 .1 .1 .0
+
+same-length-7 : tie.Need-same-length-7
+same-length-7 c = c .before .before .before .before .before .before .before .before .before .solve-entered2 .kept .1 .1 .1 .1 .1 .1 .1 .0
+
+same-length-8 : tie.Need-same-length-8
+same-length-8 c = c .before .before .before .before .before .before .before .before .before .solve-entered2 .kept .1 .1 .1 .1 .1 .1 .1 .1 .0
+
+returns-2 : tie.Need-returns-2
+returns-2 c = c .before .before .before .before .before .before .before .before .before .solve-entered2 .ensures
 
 pub solve-ready-spec : {M : Type 1} → statement M
 solve-ready-spec =
     tie.close
     (tie.spec
     layout-of-requires
-    settings-of-requires
-    estimates-requires
-    no-picks-requires
-    remember-requires
-    give-up-cost-requires
-    run-requires
-    put-list-requires
-    answer-requires
+    slice-aggregate-solve-entered
+    solve-entered-requires
     same-length
     same-length-2
     same-length-3
     same-length-4
-    returns)
+    returns
+    slice-aggregate-solve-entered-2
+    solve-entered-requires-2
+    same-length-5
+    same-length-6
+    same-length-7
+    same-length-8
+    returns-2)
