@@ -8,6 +8,31 @@ use crate::follower::{Followed, Record};
 use crate::problem::Problem;
 use crate::solver::{Answer, Kind, Tables};
 
+/// Declares C functions with the arguments of the product's runs.
+#[macro_export]
+macro_rules! declare_runs {
+    ($($name:ident),*) => {
+        extern "C" {
+            $(fn $name(
+                file: *const u8,
+                file_length: usize,
+                budget: u64,
+                values: *mut u32,
+                values_length: usize,
+                picks: *mut u16,
+                picks_length: usize,
+                remembered: *mut u32,
+                remembered_length: usize,
+                walk: *mut u16,
+                walk_length: usize,
+                answer: *mut u64,
+                answer_length: usize,
+            ) -> u8;)*
+        }
+    };
+}
+declare_runs!(cuulipso_solve, cuulipso_finish);
+
 extern "C" {
     fn cuulipso_check(
         file: *const u8,
@@ -22,36 +47,6 @@ extern "C" {
         out: *mut u8,
         out_length: usize,
     ) -> u64;
-    fn cuulipso_solve(
-        file: *const u8,
-        file_length: usize,
-        budget: u64,
-        values: *mut u32,
-        values_length: usize,
-        picks: *mut u16,
-        picks_length: usize,
-        remembered: *mut u32,
-        remembered_length: usize,
-        walk: *mut u16,
-        walk_length: usize,
-        answer: *mut u64,
-        answer_length: usize,
-    ) -> u8;
-    fn cuulipso_finish(
-        file: *const u8,
-        file_length: usize,
-        budget: u64,
-        values: *mut u32,
-        values_length: usize,
-        picks: *mut u16,
-        picks_length: usize,
-        remembered: *mut u32,
-        remembered_length: usize,
-        walk: *mut u16,
-        walk_length: usize,
-        answer: *mut u64,
-        answer_length: usize,
-    ) -> u8;
     fn cuulipso_audit(
         file: *const u8,
         file_length: usize,

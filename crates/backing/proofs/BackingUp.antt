@@ -22,9 +22,9 @@ or-joined : (a b c d : Bool) → d ≡ (a || b) → (d || c) ≡ (a || (b || c))
 or-joined true b c d e = rw e refl
 or-joined false b c d e = rw e refl
 
-or-none : (a : Bool) → (a || false) ≡ a
-or-none true = refl
-or-none false = refl
+or-nothing : (a : Bool) → (a || false) ≡ a
+or-nothing true = refl
+or-nothing false = refl
 
 -- a backup done: the scan's result is stored, and the value is raised by the model's test
 module _ {f index values picks remembered : List ℕ} (s count : ℕ) where
@@ -146,4 +146,4 @@ module _ {f index list : List ℕ} {n e : ℕ} {w : Machine} {t : Bool} {m : Mac
 
   pub all-turned : n ≤ i → turned ≡ t
   unfolding L turns
-  all-turned l = sym (or-none turned) ∙ rw (none-left l) at (h .turning)
+  all-turned l = sym (or-nothing turned) ∙ rw (none-left l) at (h .turning)

@@ -15,18 +15,17 @@ use Rattle.model.specs.Limits.{giveUp}
 use Rattle.model.specs.Problem.{Problem, giveUpCost, endRow, ownRow}
 use Rattle.model.specs.Sections.{problemOf}
 use Rattle.model.specs.Value.{byState}
-use Rattle.model.specs.Rounds.{Found, Machine, takenIf, othersFrom, traverse, consider, pickOf, scanOf}
+use Rattle.model.specs.Rounds.{Found, Machine, takenIf, traverse, consider, pickOf, scanOf}
 use Rattle.guarantee.specs.Walks.{own-row}
 use Rattle.guarantee.specs.Rows.{own-low, own-high, row-no-mark, giveUp-not-own}
 use Rattle.guarantee.specs.Searches.{and-left, and-right}
 use Rattle.guarantee.specs.Tables.{pair-first, pair-second, pair-other}
 use Rattle.guarantee.specs.Choosing.{OwnPick, landed-pick, choice-landed, threshold-giving-up}
-use Rattle.guarantee.specs.Scans.{chosen}
 use Rattle.guarantee.specs.Sound.{Sound, Allowed, holds-none, holds-giving-up, holds-own, evaluation-fits, scan-law}
 use Rattle.guarantee.specs.Evaluations.{scan-count}
 use Rattle.guarantee.specs.Rests.{Resting, considerRest, startFrom, restFrom, Rested, RestFits, taken-found, traverse-found}
 use Rattle.guarantee.specs.Rests.{rest-scanned, short-scan, rest-kept, never-falls}
-use Rattle.reading.specs.Entries.{codeIn, restIn, rowCode, codeOn, pickCode, Entered, Coded, code-some, row-coded}
+use Rattle.reading.specs.Entries.{codeIn, restIn, rowCode, codeOn, pickCode, Coded, code-some, row-coded}
 use Rattle.reading.specs.RowParts.{rows-begin, rows-end, own-at}
 use Rattle.reading.specs.Tests.{ownAt}
 use Rattle.backing.specs.Backable.{countBound, found, resting, Going, machine, Scannable, Coding, Apart, Backable, Kept, ScanDone}

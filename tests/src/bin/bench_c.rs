@@ -31,29 +31,7 @@ const BUDGET: u64 = 10_000;
 const BUDGETS: [u64; 8] = [0, 1, 2, 3, 7, 400, MAX_BUDGET + 1, u64::MAX];
 
 #[cfg(c_rounds)]
-macro_rules! declare {
-    ($($name:ident),*) => {
-        extern "C" {
-            $(fn $name(
-                file: *const u8,
-                file_length: usize,
-                budget: u64,
-                values: *mut u32,
-                values_length: usize,
-                picks: *mut u16,
-                picks_length: usize,
-                remembered: *mut u32,
-                remembered_length: usize,
-                walk: *mut u16,
-                walk_length: usize,
-                answer: *mut u64,
-                answer_length: usize,
-            ) -> u8;)*
-        }
-    };
-}
-#[cfg(c_rounds)]
-declare!(rounds_solve_os, rounds_solve_o2);
+comparisons::declare_runs!(rounds_solve_os, rounds_solve_o2);
 
 /// The builds of the rounds in C, each with what gcc was told.
 #[cfg(c_rounds)]

@@ -1,6 +1,5 @@
 -- `backup` is the model's: its scan, the pick stored, and the value raised by the model's test.
 -- Made by `places make` from answers/backup/backup.ans: edit that file, and not this one.
-use mathlib.Core.Path.{refl}
 use Rattle.backing.proofs.BackingUp.{backup-done, pick-left}
 use borrow.Author.Needs.{needs}
 use native.Mathlib.Omega.{arith}

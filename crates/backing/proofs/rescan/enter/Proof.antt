@@ -1,6 +1,6 @@
 -- `enter` stores the pick's code and rest, one beside the other.
 -- Made by `places make` from answers/rescan/enter.ans: edit that file, and not this one.
-use mathlib.Core.Path.{refl, ap, _∙_}
+use mathlib.Core.Path.{refl}
 use Prim.Native.Nat.{_*_}
 use lib.ListN.{length-set}
 use native.Mathlib.Omega.{arith}
