@@ -1,4 +1,6 @@
 // The program `audit`: audits a problem file with a values file and a picks file, and prints the answer.
+#![tactic(auto)]
+
 use libc::{STDERR_FILENO, STDOUT_FILENO};
 use model::LINE_MOST;
 use printing::table_files::{PICKS_ROOM, VALUES_ROOM};

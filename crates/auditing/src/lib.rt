@@ -1,4 +1,6 @@
 // The audit of document 01: questions 1 to 11 and 15 to 19 of a file with a values table and a picks table.
+#![tactic(auto)]
+
 mod asking;
 mod searches;
 

@@ -1,5 +1,7 @@
 // The backup of a state: the scan of its rows, what it leaves in the tables, and the backups of a round.
 // Apart from the run, so that a change of the run proves none of it again.
+#![tactic(auto)]
+
 pub mod backup;
 mod rescan;
 mod scan;

@@ -1,4 +1,6 @@
 // The C interface: numbers and slices only. A slice is passed as a pointer and then a length.
+#![tactic(auto)]
+
 pub mod shift;
 
 ghost use Rattle.std.specs.Prelude.{◌≡◌, [], ◌∷◌, ◌≤◌, length};

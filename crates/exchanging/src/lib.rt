@@ -1,4 +1,6 @@
 // Request E6: a file written in its set form, for exchange.
+#![tactic(auto)]
+
 mod form;
 mod gathering;
 

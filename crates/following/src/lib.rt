@@ -1,5 +1,7 @@
 // Following a plan through the shift: a record is opened on a file with its tables, and each report moves it on.
 // `open_at_start` and `step` take the record by value and hand it back.
+#![tactic(auto)]
+
 mod moving;
 
 ghost use Rattle.model.specs.Following.{opening, report};

@@ -46,6 +46,7 @@ pub in_nil {ℓ} : {A : Type ℓ} {a : A} → In a [] → ⊥
 in_nil i = elim i [ ]
 
 pub in_left {ℓ} : {A : Type ℓ} {a : A} (l r : List A) → In a l → In a (l ++ r)
+in_left [] r i = elim i [ ]
 in_left (b ∷ l) r here = here
 in_left (b ∷ l) r (there i) = there (in_left l r i)
 
@@ -79,6 +80,7 @@ sum_over-each (x ∷ l) = omega (arith, sum_over-each l)
 
 pub in_sum_over : (g : ℕ → ℕ) (l : List ℕ) {s : ℕ} → In s l → g s ≤ sum_over g l
 unfolding sum_over
+in_sum_over g [] i = elim i [ ]
 in_sum_over g (x ∷ l) here = omega arith
 in_sum_over g (x ∷ l) (there i) = omega (arith, in_sum_over g l i)
 

@@ -1,4 +1,5 @@
 // The answers and the limits of document 01. What they mean is in specs/.
+#![tactic(auto)]
 
 // The numbers of document 01, each under the name that specs/Limits.antt gives it.
 

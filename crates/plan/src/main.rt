@@ -1,6 +1,8 @@
 // The program `plan`: reads a problem file from standard input, runs up to 1,000,000 rounds, and prints the plan, a line for each
 // state of the last walk, by state number. With `--finish` the run goes on to the tick. With two names it also writes the tables of the run
 // to files of these names; names that cannot take them are refused before the run.
+#![tactic(auto)]
+
 ghost use Rattle.std.specs.Prelude.{◌≡◌, ℕ, ◌≤◌, List, ◌++◌, length, take};
 ghost use Rattle.model.specs.Buffers.{Holds, ReadOf};
 ghost use Rattle.model.specs.Lines.{codes};

@@ -1,5 +1,7 @@
 // What the programs do between reading their files and writing: plan a file, and audit a file with two table files. What they print is
 // put at the front of a lent buffer, and the rest of the buffer stays. Buffers are lent as arrays, whose types have the room.
+#![tactic(auto)]
+
 pub mod checked;
 pub mod files;
 mod remainders;

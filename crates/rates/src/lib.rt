@@ -1,4 +1,6 @@
 // The seconds of a stick at a melt rate: those of a file's stick are read off the printed sheet, those of any length are worked out.
+#![tactic(auto)]
+
 mod table;
 
 ghost use Rattle.std.specs.Prelude.{◌≡◌, ◌≤◌};

@@ -45,8 +45,8 @@ few_rows f =
     || (ltb (length f) (states_at f + 2) || (ltb (length f) (rows_at f + 2) || leb (u16_at f (rows_at f)) small_rows))
 
 -- whether row r is one of state s's own: between its first row and the next state's
-abbrev pub field_own : List ℕ → ℕ → ℕ → Bool
-field_own index s r = leb (get_or index s 0) r && ltb r (get_or index (s + 1) 0)
+abbrev pub own_at : List ℕ → ℕ → ℕ → Bool
+own_at index s r = leb (get_or index s 0) r && ltb r (get_or index (s + 1) 0)
 
 -- the index after k rows: where the outcomes of each begin, and its cost in ticks
 unfoldable pub row_entries : (ℕ → ℕ) → (ℕ → ℕ) → List ℕ → ℕ → List ℕ

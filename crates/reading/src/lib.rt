@@ -1,5 +1,7 @@
 // The problem file of document 01: its numbers, where its sections lie, settings, states, the index, the row value.
 // The caller's bytes are read where they lie.
+#![tactic(auto)]
+
 pub mod entries;
 pub mod index;
 pub mod layout;

@@ -1,4 +1,6 @@
 // The program `sheet`: prints the melt sheets, for each stick length the seconds of each melt rate.
+#![tactic(auto)]
+
 use libc::{STDERR_FILENO, STDOUT_FILENO};
 use printing::sheets::{SHEETS_ROOM, sheets_text};
 

@@ -1,4 +1,6 @@
 // The walk from the start with the picks as they are, and the least cost of the picks on it.
+#![tactic(auto)]
+
 pub mod entered;
 pub mod least;
 pub mod walk;

@@ -1,3 +1,5 @@
 // Putting text and numbers into a lent buffer, one after the other: the files, tables and lines of the crates above are put by these.
+#![tactic(auto)]
+
 pub mod numbers;
 pub mod text;
