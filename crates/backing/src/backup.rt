@@ -11,7 +11,7 @@ use crate::Terms;
 use crate::rescan::scan;
 
 // A round so far: the evaluations of the run, whether a value rose or a pick changed, and whether a pick changed.
-#[derive(Drop)]
+#[derive(Clone, Copy)]
 pub struct Tally {
     pub count: u64,
     pub moved: bool,

@@ -7,7 +7,7 @@ mod rescan;
 mod scan;
 
 // What the backups of a run go by: the tolerance and the cost of giving up, in ticks, and the weight total.
-#[derive(Drop)]
+#[derive(Clone, Copy)]
 pub struct Terms {
     pub tolerance: u32,
     pub give: u32,

@@ -17,7 +17,7 @@ use reading::value::part_value;
 // A scan so far: what is best, what a value must be below to beat it, the pick, the evaluations counted, and rest, which is at most what
 // each row seen so far remembers, but for the pick. Once a row is best `below` is best; while giving up is best it is one more, so that a
 // tie goes to the row.
-#[derive(Drop)]
+#[derive(Clone, Copy)]
 pub struct Found {
     pub best: u32,
     pub below: u32,
@@ -27,7 +27,7 @@ pub struct Found {
 }
 
 // Where the outcomes of a row stand, and its cost in ticks.
-#[derive(Drop)]
+#[derive(Clone, Copy)]
 pub struct Row {
     pub from: usize,
     pub to: usize,

@@ -15,7 +15,7 @@ use reading::index::{has_few_rows, large_index, small_index};
 use reading::settings::start_of;
 
 // The record after an opening or a report, and the answer.
-#[derive(Drop)]
+#[derive(Clone, Copy)]
 pub struct Stepped {
     pub follower: Follower,
     pub answer: FollowAnswer,

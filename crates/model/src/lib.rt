@@ -73,21 +73,21 @@ pub const LONGEST_FILE: usize = 8
     + 4 * MAX_OUTCOMES;
 
 // The answer to questions 1 to 11 about a file.
-#[derive(Drop)]
+#[derive(Clone, Copy)]
 pub enum FileAnswer {
     Passed,
     Refused { question: u8, place: u32 },
 }
 
 // Which run: the plain one ends with a quiet round, the finishing one goes on from there, to the tick.
-#[derive(Drop)]
+#[derive(Clone, Copy)]
 pub enum Kind {
     Plain,
     Finishing,
 }
 
 // What a run counts: rounds done, evaluations, and C, 0 if spent.
-#[derive(Drop)]
+#[derive(Clone, Copy)]
 pub struct Counts {
     pub rounds: u64,
     pub evaluations: u64,
@@ -95,7 +95,7 @@ pub struct Counts {
 }
 
 // The answer of a solved file: questions 1 to 13, or how the run ended.
-#[derive(Drop)]
+#[derive(Clone, Copy)]
 pub enum SolveAnswer {
     Solved { counts: Counts },
     Spent { counts: Counts },
@@ -103,7 +103,7 @@ pub enum SolveAnswer {
 }
 
 // The answer of the audit: questions 1 to 11 and 15 to 19, with the excess of a refusal.
-#[derive(Drop)]
+#[derive(Clone, Copy)]
 pub enum AuditAnswer {
     Accepted {
         least: u32,
@@ -118,7 +118,7 @@ pub enum AuditAnswer {
 // The record of a shift: the state it is in, the moves made and the seconds spent, and its mark: 0 clear, anything else set. It is the
 // struct of the C interface.
 #[repr(C)]
-#[derive(Drop)]
+#[derive(Clone, Copy)]
 pub struct Follower {
     pub state: u64,
     pub moves: u64,
@@ -127,7 +127,7 @@ pub struct Follower {
 }
 
 // The answer of opening a follower, and of a report: the audit's questions and 20 to 22.
-#[derive(Drop)]
+#[derive(Clone, Copy)]
 pub enum FollowAnswer {
     Done,
     Refused {
@@ -138,7 +138,7 @@ pub enum FollowAnswer {
 }
 
 // The answer of writing a file to a lent output: its length, or a question; in set form questions 1 to 11 and 23.
-#[derive(Drop)]
+#[derive(Clone, Copy)]
 pub enum WriteAnswer {
     Written { length: u32 },
     Refused { question: u8, place: u32 },

@@ -9,7 +9,7 @@ use crate::index::ROWS;
 pub const CODE_STEP: u32 = 256;
 
 // A part of the file, from a byte up to another.
-#[derive(Drop)]
+#[derive(Clone, Copy)]
 pub struct Part {
     pub from: usize,
     pub to: usize,

@@ -10,7 +10,7 @@ use crate::numbers::u16_at;
 pub const FIRST_SETTING: usize = 2;
 
 // Where the items of sections 1, 2 and 3 begin, and how many there are.
-#[derive(Drop)]
+#[derive(Clone, Copy)]
 pub struct Layout {
     pub at1: usize,
     pub states: usize,

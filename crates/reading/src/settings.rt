@@ -12,7 +12,7 @@ use crate::numbers::{u16_at, u32_at};
 use model::{MIN_SETTINGS, THOUSANDTHS, TICKS_PER_SECOND};
 
 // Tolerance in ticks, penalty in seconds.
-#[derive(Drop)]
+#[derive(Clone, Copy)]
 pub struct Settings {
     pub start: u32,
     pub tolerance: u32,

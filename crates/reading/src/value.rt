@@ -87,7 +87,7 @@ fn remainder_of(sum: u64, mean: u64, total: u32) -> u64
 }
 
 // The value of a row, and what its division left.
-#[derive(Drop)]
+#[derive(Clone, Copy)]
 pub struct RowValue {
     pub value: u64,
     pub remainder: u64,
@@ -140,7 +140,7 @@ fn undercuts(file: &[u8], index: &[u32], values: &[u32], value: u64, r: usize) -
 }
 
 // The first state with a row whose value lies below the state's, and its first such row.
-#[derive(Drop)]
+#[derive(Clone, Copy)]
 pub struct Undercut {
     pub state: usize,
     pub row: usize,
