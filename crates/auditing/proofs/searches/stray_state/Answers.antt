@@ -1,0 +1,24 @@
+-- `stray_state` answers the first state that fails: what is left of the search gives the same answer as the whole.
+use borrow.Author.Tests.{not-true, not-false}
+use Prim.Native.Nat.{◌-◌}
+use mathlib.Core.Path.{◌∙◌, sym, ap}
+use Rattle.model.specs.Audit.{stray_state}
+use Rattle.model.specs.Search.{first}
+use Rattle.guarantee.specs.Loops.{search_goes_on, search_stops, search_ends}
+use native.Mathlib.Omega.{arith}
+use Rattle.auditing.proofs.searches.stray_state.Goals as goal
+
+pub returns-then-not-pick_fits : goal.returns-then-not-pick_fits
+unfolding stray_state
+returns-then-not-pick_fits c =
+    sym (c.loop-s.invariant.1 ∙ search_stops _ _ _ c.loop-s-test.true (sym c.pick_fits.ensures ∙ c.if-not-pick_fits.true))
+    ∙ ap (first _ 0) c.requires.1
+
+pub loop-s-preserved : goal.loop-s-preserved
+loop-s-preserved c =
+    (omega arith, c.loop-s.invariant.1 ∙ search_goes_on _ _ _ c.loop-s-test.true (sym c.pick_fits.ensures ∙ c.if-not-pick_fits.false))
+
+pub returns : goal.returns
+unfolding stray_state
+returns c =
+    sym (c.loop-s.invariant.1 ∙ search_ends _ _ _ c.loop-s.invariant.0 c.loop-s-test.false) ∙ ap (first _ 0) c.requires.1
