@@ -165,13 +165,13 @@ module _ {f index : List ℕ} {t : Tables} {entries : List ℕ} {standing : Stan
 
 -- the loop over rounds: what is left of the run, of this part and of the other where it is to go on, gives w
 pub record RunLeft
-    (f index : List ℕ) (budget : ℕ) (w : Ending) (t : Tables) (entries : List ℕ) (goes_on : Bool) (e rounds : ℕ) (standing : Standing)
+    (f index : List ℕ) (budget : ℕ) (w : Ending) (t : Tables) (entries : List ℕ) (onward : Bool) (e rounds : ℕ) (standing : Standing)
     : Type 0 where
   pub runnable : Runnable f index t entries standing
   pub within : rounds ≤ budget
   pub moved : Bool
   pub left
-      : goes_on (going_on goes_on) (problem_of f) budget
+      : goes_on (going_on onward) (problem_of f) budget
       (run_from (problem_of f) e (budget - rounds) true rounds (machine_with t (take standing.listed t.walk_list) standing.count moved))
       ≡ w
   pub counted : standing.count ≤ max_rows * rounds
@@ -203,8 +203,8 @@ one_round
 unfolding run_from_with
 one_round p e k j n m h = rw (h, add-one) refl
 
-module _ {f index : List ℕ} {budget : ℕ} {w : Ending} {t : Tables} {entries : List ℕ} {goes_on : Bool} {e rounds : ℕ} {standing : Standing}
-    (h : RunLeft f index budget w t entries goes_on e rounds standing) where
+module _ {f index : List ℕ} {budget : ℕ} {w : Ending} {t : Tables} {entries : List ℕ} {onward : Bool} {e rounds : ℕ} {standing : Standing}
+    (h : RunLeft f index budget w t entries onward e rounds standing) where
   abbrev count : ℕ
   count = standing.count
 
@@ -233,12 +233,12 @@ module _ {f index : List ℕ} {budget : ℕ} {w : Ending} {t : Tables} {entries 
     went = r.same (take listed t.walk_list) h.moved
 
     went_on : (b : Bool) → d.moved ≡ b
-        → goes_on (going_on goes_on) (problem_of f) budget (run_from (problem_of f) e (budget - (rounds + 1)) b (rounds + 1) (next b)) ≡ w
+        → goes_on (going_on onward) (problem_of f) budget (run_from (problem_of f) e (budget - (rounds + 1)) b (rounds + 1) (next b)) ≡ w
     went_on b same =
         let p = problem_of f in
         rw same at
-        (ap (λ (x : Machine). goes_on (going_on goes_on) p budget (run_from p e (budget - (rounds + 1)) x.moved (rounds + 1) x)) went
-        ∙ sym (ap (goes_on (going_on goes_on) p budget) (one_round p e (budget - (rounds + 1)) (budget - rounds) rounds this (omega arith)))
+        (ap (λ (x : Machine). goes_on (going_on onward) p budget (run_from p e (budget - (rounds + 1)) x.moved (rounds + 1) x)) went
+        ∙ sym (ap (goes_on (going_on onward) p budget) (one_round p e (budget - (rounds + 1)) (budget - rounds) rounds this (omega arith)))
         ∙ h.left)
 
     after_sound : Sound (problem_of f) (next d.moved)
@@ -280,22 +280,22 @@ module _ {f index : List ℕ} {budget : ℕ} {w : Ending} {t : Tables} {entries 
           few = r.few;
         }
 
-    pub run_goes_on : d.moved ≡ true → RunLeft f index budget w t' entries' goes_on e (rounds + 1) d.standing
+    pub run_goes_on : d.moved ≡ true → RunLeft f index budget w t' entries' onward e (rounds + 1) d.standing
     run_goes_on moved = goes true (went_on true moved)
 
     -- a quiet round
-    quiet : d.moved ≡ false → goes_on (going_on goes_on) (problem_of f) budget (Ending.solved (rounds + 1) (next false)) ≡ w
+    quiet : d.moved ≡ false → goes_on (going_on onward) (problem_of f) budget (Ending.solved (rounds + 1) (next false)) ≡ w
     quiet still =
-        ap (goes_on (going_on goes_on) (problem_of f) budget)
+        ap (goes_on (going_on onward) (problem_of f) budget)
         (sym (run_stops (problem_of f) e (budget - (rounds + 1)) (rounds + 1) (next false)))
         ∙ went_on false still
 
     pub part_ends
-        : {e' : ℕ} → d.moved ≡ false → goes_on ≡ true → e' ≡ 1 → RunLeft f index budget w t' entries' false e' (rounds + 1) d.standing
+        : {e' : ℕ} → d.moved ≡ false → onward ≡ true → e' ≡ 1 → RunLeft f index budget w t' entries' false e' (rounds + 1) d.standing
     unfolding goes_on_with
     part_ends still more one = goes false (rw one (rw more at (quiet still)))
 
-    pub run_solved : d.moved ≡ false → goes_on ≡ false → w ≡ ended_as true (rounds + 1) (next false)
+    pub run_solved : d.moved ≡ false → onward ≡ false → w ≡ ended_as true (rounds + 1) (next false)
     unfolding goes_on_with
     run_solved still last = sym (rw last at (quiet still))
 
@@ -303,7 +303,7 @@ module _ {f index : List ℕ} {budget : ℕ} {w : Ending} {t : Tables} {entries 
   unfolding run_from_with goes_on_with
   run_out_of_budget l =
       let none : budget - rounds ≡ 0 = omega arith in
-      sym (spent_stays goes_on _ _ ∙ rw none at h.left)
+      sym (spent_stays onward _ _ ∙ rw none at h.left)
     where
       spent_stays
           : (b : Bool) (n : ℕ) (m : Machine) → Ending.spent n m ≡ goes_on (going_on b) (problem_of f) budget (Ending.spent n m)
