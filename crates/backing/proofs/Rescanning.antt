@@ -28,7 +28,7 @@ use Rattle.guarantee.specs.Rests.{rest_scanned, short_scan, rest_kept, never_fal
 use Rattle.reading.specs.Entries.{code_in, rest_in, row_code, code_on, pick_code, Coded, code_some, row_coded}
 use Rattle.reading.specs.RowParts.{rows_begin, rows_end, own_at_lem}
 use Rattle.reading.specs.Tests.{own_at}
-use Rattle.backing.specs.Backable.{count_bound, found, resting, Going, machine, Scannable, Coding, Apart, Backable, Kept, ScanDone}
+use Rattle.backing.specs.Backable.{count_bound, resting, Going, machine, Scannable, Coding, Apart, Backable, Kept, ScanDone}
 use Rattle.backing.specs.Backable.{rest_taken_under, rest_others_under}
 
 -- in sound tables every row value fits

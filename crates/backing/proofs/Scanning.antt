@@ -23,7 +23,7 @@ use Rattle.reading.specs.Ready.{RowReady}
 use Rattle.reading.specs.RowParts.{part_from, part_to}
 use Rattle.reading.specs.Tests.{rows_base}
 use Rattle.reading.proofs.RowValues.{row_part_there, row_value_is}
-use Rattle.backing.specs.Backable.{count_bound, found, Going, Scannable, Rowed, Apart, other_on, stop_on}
+use Rattle.backing.specs.Backable.{count_bound, Going, Scannable, Rowed, Apart, other_on, stop_on}
 use Rattle.backing.specs.Backable.{rest_under, rest_taken_under, rest_others_under}
 
 -- the code's test is the model's, and a scan goes on so from row r of value q

@@ -9,7 +9,7 @@ use Rattle.std.proofs.lemmas.List.{length-replicate}
 use Rattle.model.specs.Bytes.{u16_at, u32_at, number_bytes}
 use Rattle.model.specs.Limits.{old_limits, max_states, thousandths, max_budget, plan_rounds, give_up, min_rate, max_rate, rate_count}
 use Rattle.model.specs.CaseFiles.{file_p, partner_p, penalty_p, tied_later, rounding, coarse, values_p, picks_p, lent, planned}
-use Rattle.model.specs.CaseFiles.{finishing, at}
+use Rattle.model.specs.CaseFiles.{finishing}
 use Rattle.model.specs.Computed.{cases_hold, others_hold, forms_hold, finishings_hold}
 use Rattle.model.specs.Problem.{Problem, Outcome, give_up_cost}
 use Rattle.model.specs.Lines.{run_states, listed, plan_text}

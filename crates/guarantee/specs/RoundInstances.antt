@@ -17,7 +17,6 @@ use Rattle.model.specs.Rounds.{taken_if, others_from, traverse, raise_on, settle
 use Rattle.model.specs.Carried.{counts}
 use Rattle.model.specs.Solution.{Solution, solve_questions}
 use Rattle.model.specs.declared.Kind.TheVariants.{Plain, Finishing}
-use Rattle.model.specs.Following.{moved}
 use Rattle.guarantee.specs.Graphs.{clear_entry}
 use Rattle.guarantee.specs.Sound.{Allowed}
 use Rattle.guarantee.specs.Backups.{machine_of}

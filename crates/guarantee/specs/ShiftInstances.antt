@@ -1,6 +1,6 @@
 -- The theorems about following speak of something: each that has hypotheses is cited where they are met, on P, on P with D 100, and in a
 -- shift of a million moves on a file whose row leads back to its state.
-use Rattle.std.specs.Prelude.{◌≡◌, refl, ℕ, zero, suc, ◌+◌, ◌-◌, ◌≤◌, ◌<◌, false, List, [], ◌∷◌, pos, get_or, length, replicate}
+use Rattle.std.specs.Prelude.{◌≡◌, refl, ℕ, zero, suc, ◌+◌, ◌≤◌, ◌<◌, false, List, [], ◌∷◌, pos, get_or, length, replicate}
 use Rattle.std.proofs.Common.{◌∙◌, ap, arith, le-leb, lt-ltb}
 use Rattle.model.specs.Bytes.{u16_at, u32_at}
 use Rattle.model.specs.Limits.{max_moves, max_spent}

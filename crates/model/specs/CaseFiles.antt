@@ -5,7 +5,7 @@ use Rattle.model.specs.Limits.{thousandths, plan_rounds}
 use Rattle.model.specs.Problem.{Problem, Outcome}
 use Rattle.model.specs.Value.{by_state, row_value, row_remainder}
 use Rattle.model.specs.Sections.{at_tolerance, problem_of}
-use Rattle.model.specs.Solution.{Tables, Solution, solved, solution}
+use Rattle.model.specs.Solution.{Tables, Solution, solution}
 use Rattle.model.specs.declared.Follower.{Follower}
 use Rattle.model.specs.declared.Kind.TheVariants.{Plain, Finishing}
 use Rattle.model.specs.Lines.{codes, plan_text}

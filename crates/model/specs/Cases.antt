@@ -7,7 +7,6 @@ use Rattle.model.specs.Questions.{file_questions}
 use Rattle.model.specs.Carried.{counts}
 use Rattle.model.specs.Solution.{solved}
 use Rattle.model.specs.Audit.{Audited, accepted, audit}
-use Rattle.model.specs.Following.{refused}
 use Rattle.model.specs.Lines.{codes}
 use Rattle.model.specs.Lines.{audit_line}
 use Rattle.model.specs.Buffers.{copied}

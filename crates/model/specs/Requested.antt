@@ -1,5 +1,5 @@
 -- The cases of document 02's requests, as lists of statements about the definitions.
-use Rattle.std.specs.Prelude.{◌≡◌, ◌+◌, List, [], ◌∷◌, ◌++◌, pos, negsuc, set, replicate, take}
+use Rattle.std.specs.Prelude.{◌≡◌, List, [], ◌∷◌, ◌++◌, pos, negsuc, set, replicate, take}
 use Rattle.model.specs.Limits.{limits_of, plan_rounds}
 use Rattle.model.specs.Value.{by_state}
 use Rattle.model.specs.Sections.{length_seconds}

@@ -1,5 +1,5 @@
 -- The walk: "Walk from the start with the picks as they are." Marks and list; the states reached; the least cost on a plan.
-use Rattle.std.specs.Prelude.{ℕ, zero, suc, ◌+◌, min, Bool, true, false, ◌&&◌, not, List, [], ◌∷◌, ◌++◌, map, eqb, get_or, set, replicate}
+use Rattle.std.specs.Prelude.{ℕ, zero, suc, min, Bool, true, false, ◌&&◌, not, List, [], ◌∷◌, ◌++◌, map, eqb, get_or, set, replicate}
 use Rattle.model.specs.Limits.{max_states, give_up}
 use Rattle.model.specs.Problem.{Problem, Outcome, give_up_cost, own_row}
 use Rattle.model.specs.Value.{row_ticks}

@@ -18,28 +18,26 @@ use Rattle.auditing.proofs.asking.pick_questions.Goals as goal
 
 pub slack_state-slack-requires : goal.slack_state-slack-requires
 slack_state-slack-requires c =
-    let costed : Costed c.args.file.now c.args.picks.now c.walk-w.result.marks = fits_costed c.requires.walkable _ _ (omega (arith, c.requires.states_are, c.requires.picks_long)) (omega (arith, c.requires.states_are, c.stray_state-stray.ensures, c.if-stray-n.false)) in
-    (
-  record {
-    walkable = c.requires.walkable;
-    costed = costed;
-    values_long = omega (arith, c.requires.states_are, c.requires.values_long);
-    limit_is = c.give_up_cost-limit.ensures;
-    tolerance_is = c.settings_of-set.ensures.tolerance_is;
-  },
-  c.requires.states_are,
-)
+    let costed : Costed c.args.file.now c.args.picks.now c.walk-w.result.marks = fits_costed c.requires.walkable _ _ (omega (arith, c.requires.states_are, c.requires.picks_long)) (omega (arith, c.requires.states_are, c.stray_state-stray.ensures, c.if-stray-n.false)) in (
+      record {
+        walkable = c.requires.walkable;
+        costed = costed;
+        values_long = omega (arith, c.requires.states_are, c.requires.values_long);
+        limit_is = c.give_up_cost-limit.ensures;
+        tolerance_is = c.settings_of-set.ensures.tolerance_is;
+      },
+      c.requires.states_are,
+    )
 
 pub pick_value-value-requires : goal.pick_value-value-requires
 pick_value-value-requires c =
     let costed : Costed c.args.file.now c.args.picks.now c.walk-w.result.marks = fits_costed c.requires.walkable _ _ (omega (arith, c.requires.states_are, c.requires.picks_long)) (omega (arith, c.requires.states_are, c.stray_state-stray.ensures, c.if-stray-n.false)) in
-    let slack-costs : (get_or c.args.picks.now c.slack_state-slack.result 0 ≡ give_up) ⊎ (get_or c.args.picks.now c.slack_state-slack.result 0 < (problem_of c.args.file.now).rows) = slack_pick (costed) c.args.values.now c.slack_state-slack.ensures (omega (arith, c.requires.states_are, c.if-slack-n.true)) in
-    (
-  c.requires.walkable.ready,
-  omega (arith, c.requires.states_are, c.requires.values_long),
-  c.give_up_cost-limit.ensures,
-  slack-costs,
-)
+    let slack-costs : (get_or c.args.picks.now c.slack_state-slack.result 0 ≡ give_up) ⊎ (get_or c.args.picks.now c.slack_state-slack.result 0 < (problem_of c.args.file.now).rows) = slack_pick (costed) c.args.values.now c.slack_state-slack.ensures (omega (arith, c.requires.states_are, c.if-slack-n.true)) in (
+      c.requires.walkable.ready,
+      omega (arith, c.requires.states_are, c.requires.values_long),
+      c.give_up_cost-limit.ensures,
+      slack-costs,
+    )
 
 pub excess-requires : goal.excess-requires
 excess-requires c =

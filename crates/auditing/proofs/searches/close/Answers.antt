@@ -1,7 +1,6 @@
 -- `close` answers the test of question 19: yes where the state is not reached or a goal, else whether its pick's value
 -- is near.
 use mathlib.Core.Path.{refl, sym, ◌∙◌}
-use borrow.Author.Tests.{not-false}
 use Rattle.model.specs.Audit.{pick_value}
 use Rattle.auditing.proofs.searches.close.Goals as goal
 

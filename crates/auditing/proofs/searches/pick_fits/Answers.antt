@@ -2,7 +2,6 @@
 -- of its pick.
 use mathlib.Core.Path.{sym, ◌∙◌}
 use lib.ListN.{get_or}
-use borrow.Author.Tests.{not-false}
 use Rattle.auditing.proofs.Picking.{fitting_own}
 use Rattle.auditing.proofs.searches.pick_fits.Goals as goal
 

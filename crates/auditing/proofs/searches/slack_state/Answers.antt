@@ -1,6 +1,4 @@
 -- `slack_state` answers the first state that fails: what is left of the search gives the same answer as the whole.
-use borrow.Author.Tests.{not-true, not-false}
-use Prim.Native.Nat.{◌-◌}
 use mathlib.Core.Path.{◌∙◌, sym, ap}
 use Rattle.model.specs.Audit.{slack_state}
 use Rattle.model.specs.Search.{first}

@@ -1,7 +1,5 @@
 -- `backups` goes along the walk list: the backups that are left give the same as all, and entries fit after each.
 use mathlib.Core.Path.{◌∙◌}
-use Prim.Native.Nat.{◌-◌}
-use Rattle.model.specs.Rounds
 use Rattle.backing.proofs.BackingUp.{next_open, next_room, left_backed, all_backed, all_turned}
 use Rattle.backing.proofs.backup.backups.Goals as goal
 

@@ -1,7 +1,7 @@
 -- `consider` is the model's: a row is skipped, or evaluated under the values as they are, and rest follows. The value fits.
 use mathlib.Core.Path.{sym, ◌∙◌, ap}
 use mathlib.Core.Bool.{not}
-use borrow.Author.Tests.{not-true, ltb-false}
+use borrow.Author.Tests.{ltb-false}
 use Rattle.backing.proofs.Scanning.{going_beats, row_skipped, row_evaluated}
 use Rattle.backing.proofs.scan.consider.Goals as goal
 

@@ -1,6 +1,5 @@
 -- `others` scans the rows in order, but for the pick before: what is left of the scan gives the same as the whole.
 use mathlib.Core.Path.{refl, ◌∙◌}
-use Prim.Native.Nat.{◌-◌}
 use Rattle.backing.proofs.Scanning.{rowed_at, left_starts, left_row, left_room, left_taken, left_done}
 use Rattle.backing.proofs.scan.others.Goals as goal
 

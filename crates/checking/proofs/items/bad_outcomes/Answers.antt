@@ -1,6 +1,4 @@
 -- `bad_outcomes` answers the first row whose outcomes fail: what is left gives the same answer as the whole.
-use borrow.Author.Tests.{not-true, not-false}
-use Prim.Native.Nat.{◌-◌}
 use mathlib.Core.Path.{◌∙◌, sym}
 use Rattle.guarantee.specs.Loops.{search_goes_on, search_stops, search_ends}
 use native.Mathlib.Omega.{arith}

@@ -2,7 +2,7 @@
 -- left add to the sum of all.
 use borrow.Author.Tests.{le-ltb, lt-ltb, lt-leb, le-leb}
 use native.Mathlib.Nat.{add-zero}
-use Prim.Native.Nat.{◌≤◌, ◌<◌, ◌-◌, ◌+◌, ◌*◌, ◌/◌}
+use Prim.Native.Nat.{◌≤◌, ◌<◌, ◌+◌, ◌*◌, ◌/◌}
 use lib.ListN.{length}
 use mathlib.Core.Path.{◌∙◌, sym}
 use mathlib.Core.Bool.{and-false}

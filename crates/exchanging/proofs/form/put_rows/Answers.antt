@@ -1,6 +1,5 @@
 -- `put_rows` puts the count, and then row after row.
 use mathlib.Core.Path.{refl}
-use Prim.Native.Nat.{◌-◌}
 use Rattle.model.specs.Encoding.{parts_to}
 use Rattle.guarantee.specs.Standing.{parts_next}
 use Rattle.writing.specs.Putting.{grown_starts, grown_goes_on, grown_ends, grown_room, after, number_ends}

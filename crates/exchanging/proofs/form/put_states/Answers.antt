@@ -1,6 +1,5 @@
 -- `put_states` puts the count, and then state after state.
 use mathlib.Core.Path.{refl}
-use Prim.Native.Nat.{◌-◌}
 use Rattle.model.specs.Encoding.{parts_to}
 use Rattle.guarantee.specs.Encodings.{states_long}
 use Rattle.guarantee.specs.Standing.{parts_next}

@@ -1,6 +1,5 @@
 -- `may_occur` answers question 22: the state, its pick, the pick's outcomes.
 use Prim.Native.Nat.{◌<◌}
-use borrow.Author.Tests.{not-true, not-false}
 use Rattle.model.specs.Sections.{problem_of}
 use Rattle.following.proofs.Moves.{given_occurs, own_there, stray_occurs, own_occurs}
 use native.Mathlib.Omega.{arith}
@@ -18,11 +17,10 @@ returns-then-not-is_own c =
 
 pub outcome_count-requires : goal.outcome_count-requires
 outcome_count-requires c =
-    let inside : c.args.s < (problem_of c.args.file.now).states = omega (arith, c.requires.1, c.if-n-s.false) in
-    (
-  c.requires.0.walkable.ready,
-  own_there c.requires.0 _ c.args.outcome (inside) c.is_own.ensures (c.if-not-is_own.false),
-)
+    let inside : c.args.s < (problem_of c.args.file.now).states = omega (arith, c.requires.1, c.if-n-s.false) in (
+      c.requires.0.walkable.ready,
+      own_there c.requires.0 _ c.args.outcome (inside) c.is_own.ensures (c.if-not-is_own.false),
+    )
 
 pub returns : goal.returns
 returns c =

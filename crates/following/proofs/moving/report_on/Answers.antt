@@ -1,5 +1,4 @@
 -- `report_on` puts questions 20 to 22 in order, and then moves on.
-use borrow.Author.Tests.{not-true, not-false}
 use Rattle.following.proofs.Moves.{stops_20, stops_21, stops_22, all_pass, goes_on}
 use Rattle.following.proofs.moving.report_on.Goals as goal
 

@@ -1,5 +1,4 @@
 -- `index_rows` fills in the rows. So far the total is the sum and the entries are made; a row's number of outcomes is a byte.
-use Prim.Native.Nat.{◌-◌}
 use lib.ListN.{length-set}
 use mathlib.Core.Path.{refl}
 use Rattle.model.specs.Search.{sum_to}

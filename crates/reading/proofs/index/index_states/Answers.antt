@@ -1,5 +1,4 @@
 -- `index_states` fills in the first rows. So far the total is the sum and the table is filled; a state's row number is a byte.
-use Prim.Native.Nat.{◌-◌}
 use lib.ListN.{length-set}
 use mathlib.Core.Path.{◌≡◌, refl}
 use Rattle.model.specs.Search.{sum_to}

@@ -12,7 +12,7 @@ use Rattle.reading.proofs.outcomes.successor_of.Goals as goal
 pub returns : goal.returns
 returns c =
     let counted : length ((problem_of c.args.file.now).outcomes c.args.r) ≡ length c.outcomes_of-part.result.now / 4 =
-      sym (ap length c.outcomes_of-part.ensures.result_value) ∙ outcomes_count c.outcomes_of-part.result.now 0 _ in
+    sym (ap length c.outcomes_of-part.ensures.result_value) ∙ outcomes_count c.outcomes_of-part.result.now 0 _ in
     λ s. c.u16_at.ensures.0
     ∙ successor_at _ _ _ s (omega (arith, c.requires.2, counted))
     ∙ ap (λ os. get_or (map (λ (x : Outcome). x.successor) os) c.args.o s) c.outcomes_of-part.ensures.result_value

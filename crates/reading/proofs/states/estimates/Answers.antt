@@ -1,6 +1,5 @@
 -- `estimates` fills in the estimates: the table so far is the one with its first s entries filled in.
 use native.Mathlib.Numerals.{add-one}
-use Prim.Native.Nat.{◌-◌}
 use lib.ListN.{length-set}
 use mathlib.Core.Path.{refl}
 use Rattle.model.specs.Rounds.{fill_to}

@@ -1,6 +1,5 @@
 -- `first_undercut` answers the first state that a row of its own undercuts, and its first such row: in both loops what is left
 -- of the search gives the same answer as the whole.
-use Prim.Native.Nat.{◌-◌}
 use mathlib.Core.Path.{◌∙◌, sym}
 use borrow.Author.Tests.{ltb-true, ltb-false}
 use Rattle.guarantee.specs.Loops.{search_ends}

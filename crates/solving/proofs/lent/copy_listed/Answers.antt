@@ -1,5 +1,4 @@
 -- `copy_listed` fills the front of the walk list with the listed states: as many as turns are filled.
-use Prim.Native.Nat.{◌-◌}
 use mathlib.Core.Path.{refl}
 use Rattle.solving.proofs.Filling.{fill_starts, fill_goes_on}
 use Rattle.solving.proofs.lent.copy_listed.Goals as goal

@@ -1,5 +1,4 @@
 -- `no_picks` fills the first n picks with the mark of no pick: as many as turns are filled.
-use Prim.Native.Nat.{◌-◌}
 use mathlib.Core.Path.{refl}
 use Rattle.solving.proofs.Filling.{fill_starts, fill_goes_on}
 use Rattle.solving.proofs.lent.no_picks.Goals as goal

@@ -1,5 +1,4 @@
 -- `pad` ends the list up to n: what was padded so far stands between the front and what was there.
-use Prim.Native.Nat.{◌-◌}
 use Rattle.solving.proofs.Filling.{pad_goes_on, pad_ends}
 use Rattle.solving.proofs.lent.pad.Goals as goal
 

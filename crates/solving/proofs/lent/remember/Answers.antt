@@ -1,5 +1,4 @@
 -- `remember` fills what the first n rows remember with their values: as many as turns are filled. Every value fits.
-use Prim.Native.Nat.{◌-◌}
 use Rattle.solving.proofs.Filling.{fill_starts, fill_goes_on}
 use Rattle.solving.proofs.lent.remember.Goals as goal
 

@@ -1,9 +1,8 @@
 -- `run` makes the model's run: what is left of it gives the same as the whole, in both parts of a finishing run. A list is walked anew
 -- where a pick changed, so that each round finds the walk of its picks.
 use mathlib.Core.Path.{refl, sym, ◌∙◌}
-use mathlib.Core.Bool.{true, false, true≢false}
+use mathlib.Core.Bool.{false, true≢false}
 use borrow.Author.Tests.{not-true, not-false}
-use Prim.Native.Nat.{◌-◌}
 use Rattle.solving.proofs.Running.{of_kind, next_round_room, run_goes_on, part_ends, run_solved, run_out_of_budget}
 use Rattle.solving.proofs.Running.{ran_so}
 use Rattle.solving.proofs.run.run.Goals as goal

@@ -2,7 +2,7 @@
 -- The measure is twice the number of unmarked states, and one more for the outcomes.
 use borrow.Author.Tests.{not-true, not-false}
 use mathlib.Core.Path.{◌≡◌, refl, sym, ◌∙◌}
-use Prim.Native.Nat.{◌-◌, ◌<◌}
+use Prim.Native.Nat.{◌<◌}
 use Rattle.model.specs.Sections.{problem_of}
 use Rattle.guarantee.specs.Graphs.{each}
 use Rattle.walking.specs.Trails.{leads, Outcomes}
@@ -46,11 +46,10 @@ reach_outcomes-returns t c = loop_end c.loop-i.invariant c.loop-i-test.false
 
 pub reach_state-reach_outcomes-k-requires : goal.reach_state-reach_outcomes-k-requires
 reach_state-reach_outcomes-k-requires t c =
-    let whole : Outcomes c.args.file.now c.part_of-part.result.from c.part_of-part.result.to = rw (c.part_of-part.ensures.0, c.part_of-part.ensures.1) (c.requires.0.outcomes _ c.requires.2) in
-    (
-  omega (arith, mark_left c.requires.1 _ c.requires.2 c.requires.3),
-  (c.requires.0, mark_under c.requires.1 _ c.requires.2 c.requires.3, whole),
-)
+    let whole : Outcomes c.args.file.now c.part_of-part.result.from c.part_of-part.result.to = rw (c.part_of-part.ensures.0, c.part_of-part.ensures.1) (c.requires.0.outcomes _ c.requires.2) in (
+      omega (arith, mark_left c.requires.1 _ c.requires.2 c.requires.3),
+      (c.requires.0, mark_under c.requires.1 _ c.requires.2 c.requires.3, whole),
+    )
 
 pub reach_state-offset_bounds-list-k : goal.reach_state-offset_bounds-list-k
 reach_state-offset_bounds-list-k t c =

@@ -1,5 +1,4 @@
 -- `least_cost` answers the model's least over the states passed, one step of it a turn.
-use Prim.Native.Nat.{◌-◌}
 use Rattle.walking.proofs.Costing.{start_least, least_more}
 use native.Mathlib.Omega.{arith}
 use Rattle.walking.proofs.least.least_cost.Goals as goal

@@ -1,5 +1,4 @@
 -- `least_listed` answers the least over the states of the list passed, one state more a turn.
-use Prim.Native.Nat.{◌-◌}
 use Rattle.model.specs.Sections.{problem_of}
 use Rattle.model.specs.Value.{by_state}
 use Rattle.walking.proofs.Costing.{least_over-none, list_more}

@@ -2,7 +2,7 @@
 -- completes the whole. The measure is twice the number of unmarked states, and one more for the outcomes.
 use borrow.Author.Tests.{not-true, not-false}
 use mathlib.Core.Path.{◌≡◌, sym, ◌∙◌}
-use Prim.Native.Nat.{◌-◌, ◌<◌}
+use Prim.Native.Nat.{◌<◌}
 use Rattle.model.specs.Sections.{problem_of}
 use Rattle.model.specs.Value.{by_state}
 use Rattle.guarantee.specs.Graphs.{each}
