@@ -12,7 +12,7 @@ use Rattle.model.specs.Sections.{problem_of}
 use Rattle.model.specs.Value.{by_state}
 use Rattle.model.specs.declared.AuditAnswer.{AuditAnswer}
 use Rattle.model.specs.declared.AuditAnswer.TheVariants.{Accepted, Refused}
-use Rattle.guarantee.specs.Closeness.{audit_close}
+use Rattle.guarantee.proofs.Closeness.{audit_close}
 use Rattle.guarantee.specs.Excess.{audit_excess}
 
 pub audit_promises : (f values picks : List ℕ) (r : AuditAnswer) → audited_of r ≡ audit f values picks

@@ -21,7 +21,8 @@ use Rattle.guarantee.specs.Rows.{own_low, own_high, row_no_mark, give_up-not_own
 use Rattle.guarantee.specs.Searches.{and_left, and_right}
 use Rattle.guarantee.specs.Tables.{pair_first, pair_second, pair_other}
 use Rattle.guarantee.specs.Choosing.{OwnPick, landed_pick, choice_landed, threshold_giving_up}
-use Rattle.guarantee.specs.Sound.{Sound, Allowed, holds_none, holds_giving_up, holds_own, evaluation_fits, scan_law}
+use Rattle.guarantee.specs.Sound.{Sound, Allowed, holds_none, holds_giving_up, holds_own, scan_law}
+use Rattle.guarantee.proofs.RowsFit.{evaluation_fits}
 use Rattle.guarantee.specs.Evaluations.{scan_count}
 use Rattle.guarantee.specs.Rests.{Resting, consider_rest, start_from, rest_from, Rested, RestFits, taken_found, traverse_found}
 use Rattle.guarantee.specs.Rests.{rest_scanned, short_scan, rest_kept, never_falls}

@@ -7,9 +7,7 @@ use Rattle.std.specs.Prelude.{Bool, true, false}
 use Rattle.model.specs.Limits.{max_states, max_penalty, ticks_per_second, max_budget}
 use Rattle.model.specs.Problem.{Problem, give_up_cost}
 use Rattle.model.specs.Cover.{allowance_on, allowance_to, allowance, open_to}
-use Rattle.model.specs.Promises.{round_bound, rounds_enough}
-use Rattle.model.specs.declared.Kind.{Kind}
-use Rattle.model.specs.declared.Kind.TheVariants.{Plain, Finishing}
+use Rattle.model.specs.Promises.{round_bound}
 use Rattle.guarantee.specs.WellFormed.{WellFormed}
 
 allowance_on_lem : (b : Bool) (a limit : ℕ) → a ≤ limit → allowance_on b a ≤ limit
@@ -43,13 +41,9 @@ module _ (p : Problem) (formed : WellFormed p) where
   open_high = omega (arith, open_to_lem p p.states, formed.states_high)
 
   -- "Is the budget at most 2,000,000,000,000,000? 13": with room for one round more
-  bound_fits : (e : ℕ) → round_bound p e < max_budget
+  pub bound_fits : (e : ℕ) → round_bound p e < max_budget
   unfolding round_bound
   bound_fits e =
       let a : allowance p e + 1 ≤ max_states * (ticks_per_second * max_penalty) + 1 = omega (arith, allowance_high e) in
       let n : open_to p p.states + 1 ≤ max_states + 1 = omega (arith, open_high) in
       omega (arith, mul-le-mul a n)
-
-  pub rounds_enough_fit : (kind : Kind) → rounds_enough kind p ≤ max_budget
-  rounds_enough_fit Plain = omega (arith, bound_fits p.tolerance)
-  rounds_enough_fit Finishing = omega (arith, bound_fits 1)

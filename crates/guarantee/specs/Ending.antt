@@ -9,14 +9,13 @@ use Rattle.std.proofs.Common.{arith}
 use Rattle.model.specs.Problem.{Problem}
 use Rattle.model.specs.Value.{by_state}
 use Rattle.model.specs.Cover.{allowance, open_to}
-use Rattle.model.specs.Rounds.{Machine, round, Ending, solved, run_from, run_from_with, fill_to, machine_start, goes_on, goes_on_with, run_of}
-use Rattle.model.specs.Promises.{round_bound, rounds_enough}
-use Rattle.model.specs.declared.Kind.{Kind}
-use Rattle.model.specs.declared.Kind.TheVariants.{Plain, Finishing}
+use Rattle.model.specs.Rounds.{Machine, round, Ending, solved, run_from, run_from_with, fill_to, machine_start, goes_on, goes_on_with}
+use Rattle.model.specs.Promises.{round_bound}
+use Rattle.model.specs.declared.Kind.TheVariants.{Finishing}
 use Rattle.guarantee.specs.WellFormed.{WellFormed}
 use Rattle.guarantee.specs.Tables.{fill_entry}
 use Rattle.guarantee.specs.Sums.{sum_below}
-use Rattle.guarantee.specs.Sound.{Sound, start_sound}
+use Rattle.guarantee.specs.Sound.{Sound}
 use Rattle.guarantee.specs.Backups.{run_stops}
 use Rattle.guarantee.specs.Potential.{left_at, left, potential, allowance_left, unsettled_high}
 use Rattle.guarantee.specs.Potential.{PotentialWithin, round_lowers}
@@ -29,7 +28,7 @@ pub record Solves (p : Problem) (d bound : ℕ) (run : Ending) : Type 0 where
   pub within : rounds + potential p d machine ≤ bound
   pub sound : Sound p machine
 
-within_more : {p : Problem} {d a b : ℕ} {run : Ending} → a ≤ b → Solves p d a run → Solves p d b run
+pub within_more : {p : Problem} {d a b : ℕ} {run : Ending} → a ≤ b → Solves p d a run → Solves p d b run
 within_more l s =
     record { rounds = s.rounds; machine = s.machine; ends = s.ends; within = omega (arith, s.within); sound = s.sound }
 
@@ -79,21 +78,9 @@ module _ (p : Problem) (d : ℕ) (values picks remembered : List ℕ) (long : p.
       let m = machine_start p values picks remembered in
       omega (arith, mul-le-mul_right (open_to p p.states + 1) start_left, unsettled_high p (by_state m.values) (by_state m.picks))
 
--- ending, by the potential with any d of at least 1 that no tolerance lies below
-module _ (p : Problem) (formed : WellFormed p) (values picks remembered : List ℕ)
-    (long_values : p.states ≤ length values) (long_picks : p.states ≤ length picks) (long_remembered : p.rows ≤ length remembered) where
-  abbrev start : Machine
-  start = machine_start p values picks remembered
-
-  start_ends
-      : (d e budget : ℕ) → 1 ≤ d → d ≤ e → round_bound p d ≤ budget → Solves p d (round_bound p d) (run_from p e budget true 0 start)
-  start_ends d e budget unit steps room =
-      let less : potential p d start < round_bound p d = start_potential p d values picks remembered long_values in
-      let sound = start_sound p formed values picks remembered long_values long_picks long_remembered in
-      within_more (omega arith) (run_ends p formed d e unit steps budget 0 start sound (omega arith))
-
+module _ (p : Problem) (formed : WellFormed p) where
   -- the second part goes on where the first ended
-  finish_ends
+  pub finish_ends
       : (budget : ℕ) (end : Ending) → round_bound p 1 + 1 ≤ budget → Solves p 1 (round_bound p 1) end
       → Solves p 1 (round_bound p 1 + 1) (goes_on Finishing p budget end)
   unfolding goes_on_with
@@ -102,16 +89,3 @@ module _ (p : Problem) (formed : WellFormed p) (values picks remembered : List �
       let m = s.machine in
       let more = run_ends p formed 1 1 (omega arith) (omega arith) (budget - n) n m s.sound (omega (arith, s.within)) in
       rw s.ends (within_more (omega (arith, s.within)) more)
-
-  -- "the rise allowance A" is that of the file's own tolerance, and B that of 1, which serves both parts
-  pub solve_ends
-      : (kind : Kind) (budget : ℕ) → rounds_enough kind p ≤ budget
-      → (n : ℕ) × (m : Machine) × (run_of kind p budget values picks remembered ≡ solved n m) × (n ≤ rounds_enough kind p)
-  unfolding goes_on_with
-  solve_ends Plain budget room =
-      let run = start_ends p.tolerance p.tolerance budget formed.tolerance_low (omega arith) room in
-      (run.rounds, run.machine, run.ends, omega (arith, run.within))
-  solve_ends Finishing budget room =
-      let first = start_ends 1 p.tolerance budget (omega arith) formed.tolerance_low (omega arith) in
-      let run = finish_ends budget _ room first in
-      (run.rounds, run.machine, run.ends, omega (arith, run.within))

@@ -1,5 +1,5 @@
--- Theorems about the model: what document 01's rules lead to. Nothing here has to be believed. The theorems stand in Guarantee; all else
--- leads up to them.
+-- What leads up to the theorems about the model: what document 01's rules lead to. Nothing here has to be believed. The theorems stand in
+-- proofs/, in Guarantee.
 
 -- Searches, sums, tables, loops, and what answers carry
 pub mod Searches
@@ -38,7 +38,7 @@ pub mod Allowances
 -- The audit, and that what it accepts is close
 pub mod Accepted
 pub mod Arithmetic
-pub mod Closeness
+pub mod Slacks
 pub mod Excess
 pub mod Agreeing
 pub mod Retuned
@@ -46,7 +46,6 @@ pub mod Hollow
 -- What a solved run leaves, and what is left of lent tables
 pub mod Solved
 pub mod Solutions
-pub mod Finished
 pub mod Listings
 pub mod Beyond
 pub mod Lent
@@ -66,8 +65,3 @@ pub mod Passing
 pub mod Forms
 -- Longer cores (E9)
 pub mod Longer
--- The theorems, and that they speak of something
-pub mod Guarantee
-pub mod Instances
-pub mod RoundInstances
-pub mod ShiftInstances

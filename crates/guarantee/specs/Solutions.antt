@@ -20,13 +20,12 @@ use Rattle.model.specs.Solution.{Tables, Answer, solved, spent, refused, tables_
 use Rattle.model.specs.Solution.{solve_questions, solution_on_with, solution, solution_within}
 use Rattle.model.specs.Answers.{answer_carries}
 use Rattle.model.specs.Audit.{accepted, audit}
-use Rattle.model.specs.Promises.{rounds_enough, plan_tables}
+use Rattle.model.specs.Promises.{plan_tables}
 use Rattle.guarantee.specs.Searches.{then_first, then_next, ask_yes}
 use Rattle.guarantee.specs.WellFormed.{well_formed}
 use Rattle.guarantee.specs.Sound.{Sound, start_sound}
 use Rattle.guarantee.specs.Backups.{rounds_of, machine_of, whole_run_keeps, whole_run_rounds, whole_run_spent}
 use Rattle.guarantee.specs.Evaluations.{round_count}
-use Rattle.guarantee.specs.Ending.{solve_ends}
 use Rattle.guarantee.specs.Solved.{Final, last_tolerance, last_narrow, run_final, final_passes_audit, final_gives_up}
 
 -- what questions 12 and 13 give
@@ -134,22 +133,6 @@ module _ (f : List ℕ) (budget : ℕ) (t : Tables) (file : file_questions f ≡
   pub solution_run : (kind : Kind) → solution kind f budget t ≡ solution_of (problem_of f) t.walk_list (run_with kind f budget t)
   unfolding solution_within solution_on_with
   solution_run kind = rw (file, lent) refl
-
-  -- "given at least (A + 1) × (n + 1) rounds ends solved", or as many as a finishing run has
-  pub solution_ends
-      : (kind : Kind) → rounds_enough kind (problem_of f) ≤ budget
-      → SolvedWithin (rounds_enough kind (problem_of f)) (solution kind f budget t).answer
-  unfolding solution_of_with
-  solution_ends kind room =
-      let p = problem_of f in
-      let long = lent_long p budget t lent in
-      let run = solve_ends p (well_formed f file) t.values t.picks t.remembered long.values_long long.picks_long
-      long.remembered_long kind budget room in
-      record {
-        counts = counts run.0 run.1.evaluations (least_cost p (by_state run.1.picks));
-        ends = rw (solution_run kind, run.2) refl;
-        within = run.3;
-      }
 
 -- "A no ends the call with the number and a place; no table has changed"
 pub solution_refused

@@ -5,13 +5,13 @@ use Rattle.std.proofs.Common.{sym, ◌∙◌, ap, subst, arith, true≢false, le
 use Rattle.std.proofs.Math.Nat.{le_trans}
 use Rattle.std.proofs.Math.Bool.{true}
 use Rattle.std.proofs.Math.ListN.{get_or}
-use Rattle.model.specs.Limits.{give_up, no_pick, value_bound}
+use Rattle.model.specs.Limits.{give_up, no_pick}
 use Rattle.model.specs.Problem.{Problem, give_up_cost, end_row, own_row}
 use Rattle.model.specs.Value.{row_value, by_state}
 use Rattle.model.specs.Rounds.{Found, Machine, scan_start, scan_of, raise_on, rises, settle, backup, machine_start, fill_to, choice, bellman}
 use Rattle.guarantee.specs.Totals.{total_low}
 use Rattle.guarantee.specs.WellFormed.{WellFormed}
-use Rattle.guarantee.specs.Values.{row_value-rises_all, row_value-same_states, row_value-fits}
+use Rattle.guarantee.specs.Values.{row_value-rises_all, row_value-same_states}
 use Rattle.guarantee.specs.Undercuts.{NoUndercut}
 use Rattle.guarantee.specs.Tables.{stored, fill_length, fill_entry}
 use Rattle.guarantee.specs.Rows.{row_of_file}
@@ -77,10 +77,6 @@ module _ (p : Problem) (formed : WellFormed p) where
 
       same : (r : ℕ) → r < p.rows → row_value p (by_state (fill_to p.estimate values p.states)) r ≡ row_value p p.estimate r
       same r l = row_value-same_states p formed _ _ at r l
-
-  -- in a sound machine every row value fits in 32 bits
-  pub evaluation_fits : (m : Machine) → Sound p m → (r : ℕ) → r < p.rows → row_value p (by_state m.values) r < value_bound
-  evaluation_fits m sound = row_value-fits p formed (by_state m.values) sound.high
 
   -- a scan in a sound machine
   module _ (s : ℕ) (m : Machine) (state : s < p.states) (sound : Sound p m) where

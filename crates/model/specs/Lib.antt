@@ -26,4 +26,3 @@ pub mod Promises
 pub mod CaseFiles
 pub mod Cases
 pub mod Requested
-pub mod Computed

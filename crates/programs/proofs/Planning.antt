@@ -26,7 +26,8 @@ use Rattle.model.specs.Value.{by_state}
 use Rattle.model.specs.declared.SolveAnswer.{SolveAnswer}
 use Rattle.model.specs.declared.SolveAnswer.TheVariants.{Solved, Spent, Refused}
 use Rattle.guarantee.specs.Listings.{lines_pick}
-use Rattle.guarantee.specs.Prefixes.{longest_file, read_short, read_full, audit_tables_front, audit_buffers}
+use Rattle.guarantee.specs.Prefixes.{longest_file, read_short, read_full}
+use Rattle.guarantee.proofs.Fronts.{audit_tables_front, audit_buffers}
 use Rattle.guarantee.specs.Searches.{then_first}
 use Rattle.guarantee.specs.Solutions.{Told, TurnedDown, ran, told, lent_long, plan_lent, refused_by}
 use Rattle.guarantee.specs.WellFormed.{well_formed}

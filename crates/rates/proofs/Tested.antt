@@ -8,7 +8,7 @@ use lib.ListN.{length}
 use Rattle.model.specs.Limits.{min_rate, max_rate, file_stick}
 use Rattle.model.specs.Sections.{rate_seconds}
 use Rattle.model.specs.Sheets.{sheet_text, table_text}
-use Rattle.guarantee.specs.Guarantee.{sheet_is_the_table}
+use Rattle.guarantee.proofs.Guarantee.{sheet_is_the_table}
 use Rattle.guarantee.specs.Tables.{tabulates, tabulated}
 use Rattle.rates.specs.Sheet.{RateSheet}
 

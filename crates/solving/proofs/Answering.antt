@@ -21,7 +21,8 @@ use Rattle.guarantee.specs.WellFormed.{WellFormed}
 use Rattle.guarantee.specs.WellFormed.{well_formed}
 use Rattle.guarantee.specs.Values.{row_value-same_states}
 use Rattle.guarantee.specs.Tables.{fill_length, fill_entry}
-use Rattle.guarantee.specs.Sound.{Sound, evaluation_fits}
+use Rattle.guarantee.specs.Sound.{Sound}
+use Rattle.guarantee.proofs.RowsFit.{evaluation_fits}
 use Rattle.guarantee.specs.Graphs.{clear_entry}
 use Rattle.guarantee.specs.Rests.{rest_none}
 use Rattle.guarantee.specs.Rows.{row_no_mark}

@@ -10,9 +10,9 @@ use Rattle.model.specs.Solution.{Tables, solved, solution}
 use Rattle.model.specs.declared.Kind.{Kind}
 use Rattle.model.specs.declared.Kind.TheVariants.{Finishing}
 use Rattle.guarantee.specs.Carries.{answer_solved}
-use Rattle.guarantee.specs.Finished.{finished_exact}
-use Rattle.guarantee.specs.Guarantee.{acceptance}
-use Rattle.guarantee.specs.Solutions.{solution_ends}
+use Rattle.guarantee.proofs.Finished.{finished_exact}
+use Rattle.guarantee.proofs.Guarantee.{acceptance}
+use Rattle.guarantee.proofs.Ended.{solution_ends}
 
 module _ (kind : Kind) (f : List ℕ) (budget : ℕ) (t : Tables) {left : Tables} {carried : Carried}
     (h : Leaves carried left (solution kind f budget t)) where

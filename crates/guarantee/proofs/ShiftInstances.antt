@@ -5,7 +5,7 @@ use Rattle.std.proofs.Common.{◌∙◌, ap, arith, le-leb, lt-ltb}
 use Rattle.model.specs.Bytes.{u16_at, u32_at}
 use Rattle.model.specs.Limits.{max_moves, max_spent}
 use Rattle.model.specs.CaseFiles.{file_p, penalty_p, rounding, values_p, picks_p, gives, values_gives, at}
-use Rattle.model.specs.Computed.{cases_hold, requested_hold}
+use Rattle.model.proofs.Computed.{cases_hold, requested_hold}
 use Rattle.model.specs.Search.{sum_to}
 use Rattle.model.specs.Value.{by_state}
 use Rattle.model.specs.Sections.{states_at, rows_at, outcomes_at, outcomes_from, seconds_on, problem_of}
@@ -14,11 +14,11 @@ use Rattle.model.specs.Audit.{accepted, audit}
 use Rattle.model.specs.Following.{leads_to, move_seconds, way_to, way_seconds, has_outcome, report_questions, done}
 use Rattle.model.specs.Following.{refused as report_refused, Report, opening, moved, report, report_within, reports}
 use Rattle.model.specs.declared.Follower.{Follower}
-use Rattle.guarantee.specs.Guarantee.{audit_asked_first, opens_at_start, opens_on_accepted, refused_opening, refused_report}
-use Rattle.guarantee.specs.Guarantee.{giving_up_report, row_report, after, taken, follows_state, follows_moves}
-use Rattle.guarantee.specs.Guarantee.{follows_seconds, follows_reached, follows_on, refused_for_outcome, refused_for_moves}
-use Rattle.guarantee.specs.Guarantee.{goal_ends, giving_up_ends}
-use Rattle.guarantee.specs.Instances.{problem_p, values_r, picks_r, computed}
+use Rattle.guarantee.proofs.Guarantee.{audit_asked_first, opens_at_start, opens_on_accepted, refused_opening, refused_report}
+use Rattle.guarantee.proofs.Guarantee.{giving_up_report, row_report, after, taken, follows_state, follows_moves}
+use Rattle.guarantee.proofs.Guarantee.{follows_seconds, follows_reached, follows_on, refused_for_outcome, refused_for_moves}
+use Rattle.guarantee.proofs.Guarantee.{goal_ends, giving_up_ends}
+use Rattle.guarantee.proofs.Instances.{problem_p, values_r, picks_r, computed}
 
 -- E2 on P: a follower opened on its answer, and the reports 2, 0, 0, 0. The first is refused, the next two lead to the goal in 400 s
 abbrev pub reports_p : List ℕ

@@ -5,7 +5,7 @@ use Rattle.std.proofs.Common.{ap, arith, leb-true}
 use Rattle.model.specs.Bytes.{u16_at, u32_at}
 use Rattle.model.specs.Limits.{plan_rounds, value_bound, no_pick}
 use Rattle.model.specs.CaseFiles.{file_p, penalty_p, tied, tied_later, picks_p, lent, planned}
-use Rattle.model.specs.Computed.{requested_hold}
+use Rattle.model.proofs.Computed.{requested_hold}
 use Rattle.model.specs.Problem.{give_up_cost, own_row}
 use Rattle.model.specs.Search.{sum_to}
 use Rattle.model.specs.Value.{by_state, row_value, weighted_sum}
@@ -20,12 +20,12 @@ use Rattle.model.specs.declared.Kind.TheVariants.{Plain, Finishing}
 use Rattle.guarantee.specs.Graphs.{clear_entry}
 use Rattle.guarantee.specs.Sound.{Allowed}
 use Rattle.guarantee.specs.Backups.{machine_of}
-use Rattle.guarantee.specs.Guarantee.{plan_gives_up_when_cheaper, Met, starts, walks, backs_up, row_values_fit, run_values_fit}
-use Rattle.guarantee.specs.Guarantee.{built_on_bellman, gives_up_when_cheaper, row_beats_giving_up, earlier_pick_wins, row_order_wins}
-use Rattle.guarantee.specs.Guarantee.{remembered_low, skipped_not_picked, values_rise, values_high, PicksHeld}
-use Rattle.guarantee.specs.Guarantee.{goals_unpicked, marks_are_reached, list_is_open_reached, list_holds_once}
-use Rattle.guarantee.specs.Guarantee.{least_at_most, least_is_one, run_goes_on_met}
-use Rattle.guarantee.specs.Instances.{problem_p, p_passes, computed, p_lent}
+use Rattle.guarantee.proofs.Guarantee.{plan_gives_up_when_cheaper, Met, starts, walks, backs_up, row_values_fit, run_values_fit}
+use Rattle.guarantee.proofs.Guarantee.{built_on_bellman, gives_up_when_cheaper, row_beats_giving_up, earlier_pick_wins, row_order_wins}
+use Rattle.guarantee.proofs.Guarantee.{remembered_low, skipped_not_picked, values_rise, values_high, PicksHeld}
+use Rattle.guarantee.proofs.Guarantee.{goals_unpicked, marks_are_reached, list_is_open_reached, list_holds_once}
+use Rattle.guarantee.proofs.Guarantee.{least_at_most, least_is_one, run_goes_on_met}
+use Rattle.guarantee.proofs.Instances.{problem_p, p_passes, computed, p_lent}
 
 -- P's first round meets a backup of the start, the only state of the first walk
 abbrev pub first_p : Machine

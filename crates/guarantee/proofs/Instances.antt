@@ -10,7 +10,7 @@ use Rattle.model.specs.Bytes.{u16_at, u32_at, number_bytes}
 use Rattle.model.specs.Limits.{old_limits, max_states, thousandths, max_budget, plan_rounds, give_up, min_rate, max_rate, rate_count}
 use Rattle.model.specs.CaseFiles.{file_p, partner_p, penalty_p, tied_later, rounding, coarse, values_p, picks_p, lent, planned}
 use Rattle.model.specs.CaseFiles.{finishing}
-use Rattle.model.specs.Computed.{cases_hold, others_hold, forms_hold, finishings_hold}
+use Rattle.model.proofs.Computed.{cases_hold, others_hold, forms_hold, finishings_hold}
 use Rattle.model.specs.Problem.{Problem, Outcome, give_up_cost}
 use Rattle.model.specs.Lines.{run_states, listed, plan_text}
 use Rattle.model.specs.Search.{first, sum_to}
@@ -41,22 +41,22 @@ use Rattle.guarantee.specs.WellFormed.{WellFormed, Laid, well_formed, laid}
 use Rattle.guarantee.specs.Searches.{yes_ask}
 use Rattle.guarantee.specs.Tables.{fill_entry}
 use Rattle.guarantee.specs.Accepted.{audit_yes, audit_accepts}
-use Rattle.guarantee.specs.Closeness.{audit_close}
+use Rattle.guarantee.proofs.Closeness.{audit_close}
 use Rattle.guarantee.specs.Encodings.{Encodable, Says}
 use Rattle.guarantee.specs.Forms.{form_encodable}
 use Rattle.guarantee.specs.Longer.{CountsWithin}
 use Rattle.guarantee.specs.Retuned.{with_tolerance}
 use Rattle.guarantee.specs.Solutions.{solution_refused}
 use Rattle.guarantee.specs.Listings.{HasLine, PickLine}
-use Rattle.guarantee.specs.Guarantee.{closeness_lower, closeness_upper, closeness_positive, giving_up_refused}
-use Rattle.guarantee.specs.Guarantee.{runs_the_rounds, spent_late, ending, rounds_fit, acceptance, remainder_low}
-use Rattle.guarantee.specs.Guarantee.{file_remainder_low, lines_name_picks, solved_leaves_the_walk, solved_lists_the_plan}
-use Rattle.guarantee.specs.Guarantee.{rounding_rule, sheet_is_the_table, files_keep_meaning, equal_forms, equal_forms_audit}
-use Rattle.guarantee.specs.Guarantee.{form_is_accepted, form_setting_count, form_kind, form_rises, form_weights}
-use Rattle.guarantee.specs.Guarantee.{form_says_the_same, form_no_longer, form_stays, form_values, form_remainders}
-use Rattle.guarantee.specs.Guarantee.{form_audits, encoded_reads_back, file_longer_than_tables, refusal, stored_text}
-use Rattle.guarantee.specs.Guarantee.{older_reader}
-use Rattle.guarantee.specs.Guarantee.{finished_to_the_tick, finished_acceptance, finished_closeness, retuned_file, spent_alike}
+use Rattle.guarantee.proofs.Guarantee.{closeness_lower, closeness_upper, closeness_positive, giving_up_refused}
+use Rattle.guarantee.proofs.Guarantee.{runs_the_rounds, spent_late, ending, rounds_fit, acceptance, remainder_low}
+use Rattle.guarantee.proofs.Guarantee.{file_remainder_low, lines_name_picks, solved_leaves_the_walk, solved_lists_the_plan}
+use Rattle.guarantee.proofs.Guarantee.{rounding_rule, sheet_is_the_table, files_keep_meaning, equal_forms, equal_forms_audit}
+use Rattle.guarantee.proofs.Guarantee.{form_is_accepted, form_setting_count, form_kind, form_rises, form_weights}
+use Rattle.guarantee.proofs.Guarantee.{form_says_the_same, form_no_longer, form_stays, form_values, form_remainders}
+use Rattle.guarantee.proofs.Guarantee.{form_audits, encoded_reads_back, file_longer_than_tables, refusal, stored_text}
+use Rattle.guarantee.proofs.Guarantee.{older_reader}
+use Rattle.guarantee.proofs.Guarantee.{finished_to_the_tick, finished_acceptance, finished_closeness, retuned_file, spent_alike}
 
 abbrev pub problem_p : Problem
 problem_p = problem_of file_p

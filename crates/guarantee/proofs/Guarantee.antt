@@ -39,17 +39,19 @@ use Rattle.guarantee.specs.WellFormed.{well_formed, file_long}
 use Rattle.guarantee.specs.Walks.{reached_marked, walk_whole, listed_reached, listed_open, reached_listed, listed_places}
 use Rattle.guarantee.specs.Walks.{least_low, least_cheapest}
 use Rattle.guarantee.specs.Accepted.{Accepts, audit_exactly, audit_table}
-use Rattle.guarantee.specs.Closeness.{audit_lower, audit_close}
-use Rattle.guarantee.specs.Sound.{Allowed, evaluation_fits, best_is_bellman, backup_rises}
+use Rattle.guarantee.proofs.Closeness.{audit_lower, audit_close}
+use Rattle.guarantee.specs.Sound.{Allowed, best_is_bellman, backup_rises}
+use Rattle.guarantee.proofs.RowsFit.{evaluation_fits}
 use Rattle.guarantee.specs.Sound.{scan_gives_up, scan_takes_row, scan_pick_stays, scan_order_wins}
 use Rattle.guarantee.specs.Backups.{machine_of, run_keeps, whole_run_keeps}
-use Rattle.guarantee.specs.Allowances.{rounds_enough_fit}
+use Rattle.guarantee.proofs.Budgets.{rounds_enough_fit}
 use Rattle.guarantee.specs.Retuned.{with_tolerance, retuned_passes, retuned_problem}
-use Rattle.guarantee.specs.Finished.{finished_exact}
+use Rattle.guarantee.proofs.Finished.{finished_exact}
 use Rattle.guarantee.specs.Beyond.{Beyond, solution_beyond}
 use Rattle.guarantee.specs.Hollow.{table_too_dear}
 use Rattle.guarantee.specs.Underway.{Underway, turn_open, underway_start, underway_walked, underway_backup, scan_any_memory}
-use Rattle.guarantee.specs.Solutions.{lent_sound, solution_run, solution_ends, spent_budget, spent_the_same, refused_by}
+use Rattle.guarantee.proofs.Ended.{solution_ends}
+use Rattle.guarantee.specs.Solutions.{lent_sound, solution_run, spent_budget, spent_the_same, refused_by}
 use Rattle.guarantee.specs.Solutions.{evaluations_few, answer_accepted, answer_gives_up}
 use Rattle.guarantee.specs.Lent.{cut}
 use Rattle.guarantee.specs.Longer.{CountsWithin, old_verdict, old_solution, old_audit, old_exchange, old_opening}

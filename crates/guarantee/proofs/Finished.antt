@@ -18,7 +18,7 @@ use Rattle.guarantee.specs.Rows.{own_low, own_high}
 use Rattle.guarantee.specs.Choosing.{OwnPick}
 use Rattle.guarantee.specs.Walks.{reached_state, reached_marked}
 use Rattle.guarantee.specs.Accepted.{AcceptsWithin, Marked}
-use Rattle.guarantee.specs.Closeness.{accepted_close}
+use Rattle.guarantee.proofs.Closeness.{accepted_close}
 use Rattle.guarantee.specs.Retuned.{retuned_passes, retuned_accepts}
 use Rattle.guarantee.specs.Solutions.{solved_by, solved_ends}
 
