@@ -1,4 +1,4 @@
-/* The C interface of Cuulipso (target/staticlib/libcapi.a, made by `rt staticlib capi`).
+/* The C interface of Cuulipso (crates/capi/out/libcapi.a, made by `rt lib` in crates/capi).
  *
  * A table is lent as a pointer and its number of entries. Any bytes and any tables get an answer; nothing is read or written past an
  * end, nothing is kept after a call, and no memory is allocated. Calls on tables of their own may run at the same time.
