@@ -8,8 +8,8 @@
  *
  * A file is taken at any length; the longest that passes has CUULIPSO_FILE bytes.
  *
- * Stack, measured on the deepest file (docs/MEASURED.md): solve and finish need 292 KiB, audit, open and report 344 KiB, set_form 160 KiB,
- * check and rows 88 KiB. A thread may have less than the main program: give one that makes these calls 512 KiB. */
+ * Stack, measured on the deepest file (docs/MEASURED.md): solve and finish need no more than 292 KiB, audit, open and report 344 KiB,
+ * set_form 160 KiB, check and rows 88 KiB. A thread may have less than the main program: give one that makes these calls 512 KiB. */
 #ifndef CUULIPSO_H
 #define CUULIPSO_H
 
