@@ -30,7 +30,7 @@ fn archive_folder() -> PathBuf {
     let package = PathBuf::from(std::env::var("CARGO_MANIFEST_DIR").expect("set by cargo"));
     match std::env::var("CAPI_DIR") {
         Ok(folder) => package.join(folder),
-        Err(_) => package.join("../target/staticlib"),
+        Err(_) => package.join("../crates/capi/out"),
     }
 }
 

@@ -1,4 +1,4 @@
-/* The C interface of Cuulipso (target/staticlib/libcapi.a, made by `rt staticlib capi`).
+/* The C interface of Cuulipso (crates/capi/out/libcapi.a, made by `rt lib` in crates/capi).
  *
  * A table is lent as a pointer and its number of entries. Any bytes and any tables get an answer; nothing is read or written past an
  * end, nothing is kept after a call, and no memory is allocated. Calls on tables of their own may run at the same time.
@@ -8,8 +8,8 @@
  *
  * A file is taken at any length; the longest that passes has CUULIPSO_FILE bytes.
  *
- * Stack, measured on the deepest file (docs/MEASURED.md): solve and finish need 292 KiB, audit, open and report 344 KiB, set_form 160 KiB,
- * check and rows 88 KiB. A thread may have less than the main program: give one that makes these calls 512 KiB. */
+ * Stack, measured on the deepest file (docs/MEASURED.md): solve and finish need no more than 292 KiB, audit, open and report 344 KiB,
+ * set_form 160 KiB, check and rows 88 KiB. A thread may have less than the main program: give one that makes these calls 512 KiB. */
 #ifndef CUULIPSO_H
 #define CUULIPSO_H
 

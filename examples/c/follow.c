@@ -1,6 +1,6 @@
 /* Solves a problem file, opens a follower on its plan and reports the outcomes given, and prints what each call left.
  *
- *     gcc -O2 -Iexamples/c examples/c/follow.c target/staticlib/libcapi.a -o follow
+ *     gcc -O2 -Iexamples/c examples/c/follow.c crates/capi/out/libcapi.a -o follow
  *     ./follow examples/P 0 0 0 */
 #include "cuulipso.h"
 #include "problem_file.h"

@@ -1,7 +1,7 @@
 /* Checks, solves and audits a problem file through the C interface, and prints what it got. With the word finish behind the name it
  * solves the file to the tick.
  *
- *     gcc -O2 -Iexamples/c examples/c/plan_and_audit.c target/staticlib/libcapi.a -o plan_and_audit
+ *     gcc -O2 -Iexamples/c examples/c/plan_and_audit.c crates/capi/out/libcapi.a -o plan_and_audit
  *     ./plan_and_audit examples/P
  *     ./plan_and_audit examples/P finish */
 #include "cuulipso.h"

@@ -1,6 +1,6 @@
 /* Writes the set form of a problem file to standard output; a refusal goes to standard error, and ends with 1.
  *
- *     gcc -O2 -Iexamples/c examples/c/set_form.c target/staticlib/libcapi.a -o set_form
+ *     gcc -O2 -Iexamples/c examples/c/set_form.c crates/capi/out/libcapi.a -o set_form
  *     ./set_form examples/P > P.form */
 #include "cuulipso.h"
 #include "problem_file.h"

@@ -1,6 +1,6 @@
 //! Checks, solves and audits a problem file through the C interface, and prints what it got.
 //!
-//!     rustc -O examples/rust/plan_and_audit.rs -C link-arg=target/staticlib/libcapi.a
+//!     rustc -O examples/rust/plan_and_audit.rs -C link-arg=crates/capi/out/libcapi.a
 //!     ./plan_and_audit examples/P
 
 use std::process::ExitCode;

@@ -10,13 +10,15 @@ fn top() -> PathBuf {
     PathBuf::from(env!("CARGO_MANIFEST_DIR")).join("..")
 }
 
-/// Every file below a folder.
+/// Every file below a folder, but for what `rt` keeps in out/, where older texts may lie.
 fn files(folder: &Path) -> Vec<PathBuf> {
     let mut found = Vec::new();
     for entry in fs::read_dir(folder).into_iter().flatten().flatten() {
         let path = entry.path();
         if path.is_dir() {
-            found.extend(files(&path));
+            if !path.ends_with("out") {
+                found.extend(files(&path));
+            }
         } else {
             found.push(path);
         }

@@ -41,25 +41,25 @@ const STRICT_C: &str = "-std=c11 -Wall -Wextra -Wpedantic -Werror";
 const EXAMPLES: [Example; 2] = [
     Example {
         name: "c",
-        command: "gcc -O2 -Iexamples/c examples/c/plan_and_audit.c target/staticlib/libcapi.a",
+        command: "gcc -O2 -Iexamples/c examples/c/plan_and_audit.c crates/capi/out/libcapi.a",
         strict: STRICT_C,
     },
     Example {
         name: "rust",
-        command: "rustc -O examples/rust/plan_and_audit.rs -C link-arg=target/staticlib/libcapi.a",
+        command: "rustc -O examples/rust/plan_and_audit.rs -C link-arg=crates/capi/out/libcapi.a",
         strict: "-D warnings",
     },
 ];
 /// The example that follows a plan.
 const FOLLOW: Example = Example {
     name: "follow",
-    command: "gcc -O2 -Iexamples/c examples/c/follow.c target/staticlib/libcapi.a",
+    command: "gcc -O2 -Iexamples/c examples/c/follow.c crates/capi/out/libcapi.a",
     strict: STRICT_C,
 };
 /// The example that writes a set form.
 const SET_FORM: Example = Example {
     name: "set_form",
-    command: "gcc -O2 -Iexamples/c examples/c/set_form.c target/staticlib/libcapi.a",
+    command: "gcc -O2 -Iexamples/c examples/c/set_form.c crates/capi/out/libcapi.a",
     strict: STRICT_C,
 };
 /// The C examples, which read a file by `problem_file.h`.
@@ -72,7 +72,7 @@ const C_PLUS_PLUS: &str =
      return cuulipso_check(nullptr, 0, answer, CUULIPSO_ANSWER); }\n";
 /// How it is compiled, from standard input.
 const COMPILED: &str =
-    "g++ -std=c++17 -Wall -Wextra -Wpedantic -Werror -Iexamples/c -x c++ - -x none target/staticlib/libcapi.a";
+    "g++ -std=c++17 -Wall -Wextra -Wpedantic -Werror -Iexamples/c -x c++ - -x none crates/capi/out/libcapi.a";
 /// Damaged files whose set form is asked for, in each total.
 const DAMAGED: usize = 24;
 /// How often each of the questions 1 to 11 must be met.

@@ -421,16 +421,30 @@ impl Room {
         }
     }
 
-    /// Names of any bytes but a slash, and names in a folder below, are written.
+    /// Names of any characters but a slash, and names in a folder below, are written.
     fn compare_odd_names(&mut self) {
         self.try_case("odd names".into());
-        let odd: OsString = OsStringExt::from_vec(vec![b' ', 0xff, b'*', b'\n']);
+        let odd = OsString::from(" é*\n");
         let below = OsString::from("folder/picks");
         self.compare_written(&odd, &below);
         let names = [OsStr::new("file"), &odd, &below];
         let said = self.audit.run(&self.folder, &names, &[]);
         self.tally.hold("the audit", said.output.as_str(), "accepted 100000\n");
         self.restore(&[&odd, &below]);
+    }
+
+    /// A name that is not UTF-8 can be neither written nor read.
+    fn compare_no_text(&mut self) {
+        let name: OsString = OsStringExt::from_vec(vec![b' ', 0xff, b'*']);
+        self.compare_unwritable(&name, OsStr::new("old-picks"), &name);
+        self.compare_unwritable(OsStr::new("old-values"), &name, &name);
+        self.tally.case = "audit, a name that is not UTF-8".into();
+        self.tally.count("names that cannot be read");
+        let names = [&name, OsStr::new("old-values"), OsStr::new("old-picks")];
+        let said = self.audit.run(&self.folder, &names, &[]);
+        self.tally.hold("the verdict", said.output.as_str(), "");
+        self.hold_message(&said.messages, &front("audit", &name.to_string_lossy()));
+        self.hold_folder();
     }
 
     /// `audit` with a name that cannot be read at each place: a message, and no verdict.
@@ -550,6 +564,7 @@ fn main() -> ExitCode {
         room.compare_full_disk();
         room.compare_one_name();
         room.compare_odd_names();
+        room.compare_no_text();
         room.compare_unreadable_input();
     }
     room.compare_dashes();

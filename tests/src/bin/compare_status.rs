@@ -56,29 +56,48 @@ const WAYS: [&str; 9] = [
     "exec \"$@\" <&- >&- 2>&-",
 ];
 /// The crates of a repository that is made for a build, and what is said of them.
-const CRATES: &str = "low:\nhigh: low io # above\nother: high\nplan: high low libc\n";
+const CRATES: &str =
+    "plan: high low io\nhigh: low io # above\nother: high\nc staticlib: low\nlow:\n";
 const FIRST: &str = "plan: proving 3 crates and building the program, which takes some minutes\n";
 const AGAIN: &str =
     "plan: the program may be older than its sources: proving what is new in its 3 crates\n";
-const PROVED: &str = "plan: low proved (2 s), 2 left\nplan: plan proved (7 s), 0 left\n";
-const NOT_PROVED: &str = "plan: low proved (2 s), 2 left\nplan: high NOT PROVED (exit 1, 3 s)\n";
-const NOT_BUILT: &str = "plan: it could not be built; 'rt check plan' says why\n";
+const PROVED: &str = "plan: low proved (1 s), 2 left\nplan: plan proved (1 s), 0 left\n";
+const NOT_PROVED: &str = "plan: low proved (1 s), 2 left\nplan: high NOT PROVED (exit 1, 1 s)\n";
+const NOT_BUILT: &str = "plan: it could not be built; 'rt check' in crates/high says why\n";
+const SILENT: &str = "plan: low NOT PROVED (exit 2, 1 s)\n\
+    plan: it could not be built; 'rt check' in crates/low says why\n";
+const NOT_LINKED: &str = "plan: plan NOT PROVED (exit 1, 1 s)\n\
+    plan: it could not be built; 'rt check' in crates/plan says why\n";
 const WAITS: &str = "plan: another start is building: this one waits for it\n";
 const NO_RT: &str =
     "plan: it has to be built, and rt, the command of the Rattle kit, is not on the path\n";
-/// What an `rt` does that proves and builds, and one that does not.
-const BUILDS: &str = "echo 'rt: low proved (2 s)'; echo said; \
-    echo 'rt: high proved (unchanged since it was last proved)'; \
-    mkdir -p target/bin; cp \"$PROGRAM\" target/bin/plan; echo 'rt: plan proved (7 s)'; \
-    echo 'rt: plan ran, and wrote something (0 s)'; echo 'rt: ok, 3 crates proved'";
-const FAILS: &str =
-    "echo 'rt: low proved (2 s)'; echo 'rt: high NOT PROVED (exit 1, 3 s)' >&2; exit 1";
+/// What an `rt` does that proves and builds, and one that does not. Of a library that is built already `rt`
+/// says nothing, and it ends as the program does that it built and ran.
+const BUILDS: &str = "case \"${PWD##*/} $*\" in \
+    'low lib') echo 'fn low::f: proved'; echo 'logic=proved functions=1' ;; \
+    'high lib') ;; \
+    'plan run') mkdir -p out && cp \"$PROGRAM\" out/plan && echo 'logic=proved functions=2' >&2; \
+    echo 'rt: running out/plan; to give it other input, run that file yourself' >&2; \
+    echo 'refused 0 0'; exit 1 ;; \
+    *) exit 2 ;; \
+    esac";
+const FAILS: &str = "case \"${PWD##*/} $*\" in \
+    'low lib') echo 'fn low::f: proved'; echo 'logic=proved functions=1' ;; \
+    *) echo 'logic=not-proved'; exit 1 ;; \
+    esac";
+/// One that proves all, and then does not build the program.
+const DOES_NOT_LINK: &str =
+    "[ \"${PWD##*/} $*\" != 'plan run' ] || { echo 'logic=proved' >&2; exit 1; }";
+/// What is asked of `rt` in each build, the crates from the lowest up.
+const CALLS: &str = "low lib\nhigh lib\nplan run\n";
 /// What one does first that is to be met while it builds: it waits for a file, though not for ever.
 const WAITS_TO_GO: &str =
     "n=0; until [ -e \"$ROOM/go\" ] || [ $n -eq 200 ]; do sleep 0.1; n=$((n + 1)); done";
 /// A program, or an `rt`, that tells its number and goes on for long.
 const GOES_ON: &str =
     "echo $$ >\"$ROOM/number.new\"; mv \"$ROOM/number.new\" \"$ROOM/number\"; exec sleep 60";
+/// A `date` by which each of its calls is a second after the one before.
+const SECONDS: &str = "echo >>\"$ROOM/seconds\"; wc -l <\"$ROOM/seconds\"";
 /// The commands that the start scripts need, and the `rt` that is made here.
 const TOOLS: [&str; 17] = [
     "awk", "cat", "cksum", "cp", "find", "flock", "mkdir", "mv", "readlink", "rm", "sed", "setsid",
@@ -342,13 +361,16 @@ impl Room {
         let made = Repository::new(self, 1);
         made.rt(BUILDS);
         self.hold_start("a first start", &made, &[FIRST, PROVED], 0, 1);
+        self.tally.hold("what is asked of rt", &made.asked().as_str(), &CALLS);
         self.hold_start("a second start", &made, &[], 0, 1);
         let made = Repository::new(self, 2);
         made.rt(FAILS);
         self.hold_start("a build that fails", &made, &[FIRST, NOT_PROVED, NOT_BUILT], 2, 1);
         self.hold_start("once more", &made, &[FIRST, NOT_PROVED, NOT_BUILT], 2, 2);
         made.rt("exit 2");
-        self.hold_start("a build that says nothing", &made, &[FIRST, NOT_BUILT], 2, 3);
+        self.hold_start("a build that says nothing", &made, &[FIRST, SILENT], 2, 3);
+        made.rt(DOES_NOT_LINK);
+        self.hold_start("a program that is not built", &made, &[FIRST, NOT_LINKED], 2, 4);
     }
 
     /// A program that is older than its sources, or was replaced, is built again, and where that fails it
@@ -359,7 +381,7 @@ impl Room {
         self.hold_start("a first start", &made, &[FIRST, PROVED], 0, 1);
         for (count, name) in [
             (2, "crates/low/src/lib.rt"),
-            (3, "crates/high/proofs/f/Proof.antt"),
+            (3, "crates/high/proofs/f/Answers.antt"),
             (4, "crates/plan/specs/New.antt"),
             (5, "crates.txt"),
         ] {
@@ -368,10 +390,12 @@ impl Room {
         }
         made.append("target/bin/plan");
         self.hold_start("the program changed", &made, &[FIRST, PROVED], 0, 6);
-        for name in ["crates/other/src/lib.rt", "crates/low/answers/f.ans", "README.md"] {
+        for name in ["crates/other/src/lib.rt", "crates/low/must-fail/f.edit", "README.md"] {
             made.append(name);
             self.hold_start(&format!("{name} changed"), &made, &[], 0, 6);
         }
+        made.folder.put("crates/plan/out/kept.antt", Some(b"made by rt\n"));
+        self.hold_start("what rt keeps in out/", &made, &[], 0, 6);
         let low = made.folder.path("crates/low/src/lib.rt");
         std::fs::write(&low, std::fs::read(&low).expect("a source")).expect("it can be written");
         self.hold_start("a source written again", &made, &[], 0, 6);
@@ -559,7 +583,7 @@ impl Repository {
         let folder = Folder::new(&format!("compare-status-{number}"));
         let top = room.plan.script.path().parent().expect("a folder");
         for name in
-            ["start", "bin", "tools", "crates/low/src", "crates/low/answers", "crates/plan/specs"]
+            ["start", "bin", "tools", "crates/low/src", "crates/low/must-fail", "crates/plan/specs"]
         {
             std::fs::create_dir_all(folder.path(name)).expect("a folder can be made");
         }
@@ -570,7 +594,7 @@ impl Repository {
             std::fs::copy(top.join(name), folder.path(name)).expect("a script");
         }
         folder.put("crates.txt", Some(CRATES.as_bytes()));
-        for name in ["crates/low/src/lib.rt", "crates/high/proofs/f/Proof.antt"] {
+        for name in ["crates/low/src/lib.rt", "crates/high/proofs/f/Answers.antt"] {
             folder.put(name, Some(b"as it was\n"));
         }
         let path = std::env::var("PATH").expect("a path");
@@ -592,13 +616,18 @@ impl Repository {
 
     /// Writes the `rt` that does these commands.
     fn rt(&self, commands: &str) {
-        self.script("bin/rt", &format!("echo \"$*\" >>\"$ROOM/calls\"; {commands}"));
+        self.script("bin/date", SECONDS);
+        self.script("bin/rt", &format!("echo \"${{PWD##*/}} $*\" >>\"$ROOM/calls\"; {commands}"));
     }
 
-    /// How often it was called, for the right program.
+    /// What was asked of it: the crate in whose folder, and its words.
+    fn asked(&self) -> String {
+        String::from_utf8_lossy(&self.folder.get("calls").unwrap_or_default()).into_owned()
+    }
+
+    /// How often the program was built, or that was begun: each build begins with its lowest crate.
     fn calls(&self) -> usize {
-        let calls = self.folder.get("calls").unwrap_or_default();
-        String::from_utf8_lossy(&calls).lines().filter(|&line| line == "check plan").count()
+        self.asked().lines().filter(|&line| line == "low lib").count()
     }
 
     /// Adds a line to a file, which may be new.
