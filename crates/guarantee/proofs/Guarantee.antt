@@ -531,10 +531,10 @@ module _ (f : List ℕ) (budget : ℕ) (t : Tables) (file : file_questions f ≡
   values_high met = (underway met).sound.high
 
   -- "picks (16 bits: row number, 65,535 giving up, 65,534 no pick, also at goals)": a row number is that of one of the state's own rows
-  pub PicksHeld
+  pub picks_held
       : {rest : List ℕ} {m : Machine} → Met (problem_of f) t rest m → (s : ℕ) → s < (problem_of f).states
       → Allowed (problem_of f) s (get_or m.picks s 0)
-  PicksHeld met = (underway met).sound.picked
+  picks_held met = (underway met).sound.picked
 
   pub goals_unpicked
       : {rest : List ℕ} {m : Machine} → Met (problem_of f) t rest m → (s : ℕ) → s < (problem_of f).states → (problem_of f).goal s ≡ true

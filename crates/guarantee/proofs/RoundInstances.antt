@@ -22,7 +22,7 @@ use Rattle.guarantee.specs.Sound.{Allowed}
 use Rattle.guarantee.specs.Backups.{machine_of}
 use Rattle.guarantee.proofs.Guarantee.{plan_gives_up_when_cheaper, Met, starts, walks, backs_up, row_values_fit, run_values_fit}
 use Rattle.guarantee.proofs.Guarantee.{built_on_bellman, gives_up_when_cheaper, row_beats_giving_up, earlier_pick_wins, row_order_wins}
-use Rattle.guarantee.proofs.Guarantee.{remembered_low, skipped_not_picked, values_rise, values_high, PicksHeld}
+use Rattle.guarantee.proofs.Guarantee.{remembered_low, skipped_not_picked, values_rise, values_high, picks_held}
 use Rattle.guarantee.proofs.Guarantee.{goals_unpicked, marks_are_reached, list_is_open_reached, list_holds_once}
 use Rattle.guarantee.proofs.Guarantee.{least_at_most, least_is_one, run_goes_on_met}
 use Rattle.guarantee.proofs.Instances.{problem_p, p_passes, computed, p_lent}
@@ -90,7 +90,7 @@ pub p_holds
 unfolding problem_of states_at u16_at
 p_holds = (
   values_high file_p plan_rounds (lent 3) p_passes p_rounds_go p_met 0 (leb-true _ _ refl),
-  PicksHeld file_p plan_rounds (lent 3) p_passes p_rounds_go p_met 0 (leb-true _ _ refl),
+  picks_held file_p plan_rounds (lent 3) p_passes p_rounds_go p_met 0 (leb-true _ _ refl),
   goals_unpicked file_p plan_rounds (lent 3) p_passes p_rounds_go p_met 2 (leb-true _ _ refl) refl,
 )
 
