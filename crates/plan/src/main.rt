@@ -8,43 +8,54 @@ ghost use Rattle.model.specs.Buffers.{Holds, ReadOf};
 ghost use Rattle.model.specs.Lines.{codes};
 ghost use Rattle.plan.specs.Names.{name_most, Named, same_name, clashing, takes, clears, Shows};
 
-use libc::{ENOENT, SEEK_CUR, STDERR_FILENO, STDIN_FILENO, STDOUT_FILENO};
 use model::{Kind, MAX_STATES, NO_PICK, PLAN_HOLDS};
+use printing::messages::complain;
 use printing::table_files::{
     PICK_BYTES, PICKS_ROOM, VALUE_BYTES, VALUES_ROOM, put_picks, put_values,
 };
 use programs::checked::states_in;
-use programs::files::{are_names, fail, read_whole};
+use programs::files::{
+    NAME, are_names, arg_count, argument, fail, open_named, path_of, read_whole,
+};
 use programs::{PAGE, front};
+use std::fs::{OpenFile, OpenOptions};
+use std::io::{Error, ErrorKind, Read, Seek, Write};
+use std::rt::{Env, Files};
+use std::{fs, io};
 use writing::text::put;
 
 // One byte more than any table has: a value has more of them than a pick.
 const LOOK: usize = VALUES_ROOM + 1;
 
-// Room for the longest argument that is read, that of `io::buffer`, and for `.part` after it.
-const NAME: usize = 4096;
-
+// Room for the longest argument that is read, and for `.part` after it.
 const PART: usize = NAME + 5;
 
-fn complain(text: &[u8]) {
-    io::write_all(STDERR_FILENO, text);
+// Writes all of `bytes` to a file that was opened, and closes it. Closing tells nothing, so that what it could tell is asked for before.
+fn write_closing<F: Write + OpenFile + Drop>(mut file: F, bytes: &[u8]) -> io::Result<()> {
+    file.write_all(bytes)?;
+    file.sync_all()
 }
 
-// Writes all of `bytes` to a file that was opened, and answers whether that went well.
-fn write_closing(fd: i32, bytes: &[u8]) -> bool {
-    let is_written = io::write_all(fd, bytes);
-    if libc::close(fd) < 0 {
-        return false;
+// Removes a file, where it is there.
+fn remove<F: Files>(rt: &F, name: &[u8]) {
+    if let Ok(path) = path_of(name) {
+        let _ = fs::remove_file(rt, path);
     }
-    is_written
 }
 
 // What stands under a name: nothing, a file of so many bytes, or anything else, as a folder, a pipe or a file that may not be written.
-#[derive(Drop)]
+#[derive(Clone, Copy)]
 enum There {
     Nothing,
     Bytes(usize),
     Other,
+}
+
+// What was found under a name. Where it is anything else than nothing or a file, why it cannot be looked into.
+#[derive(Clone, Copy)]
+struct Found {
+    there: There,
+    failed: Option<Error>,
 }
 
 // A file of which `read` bytes are in `bytes`, as many as there is room for: that shows whether it is just as long as a table, since any
@@ -56,27 +67,40 @@ fn seen(bytes: &[u8; LOOK], read: usize) -> There
     There::Bytes(got.len())
 }
 
-// Looks at a name, as far as tables go: a longer file has `LOOK` bytes. Where it is anything else, errno says why. A name of no bytes, which
-// no file can have, is among these, and a pipe, which has no position.
-fn look(name: &[u8]) -> There {
-    let fd = os::open_update(name);
-    if fd < 0 {
-        if os::errno() == ENOENT && 0 < name.len() {
-            return There::Nothing;
-        }
-        return There::Other;
+// Anything else than nothing or a file, and why it cannot be looked into.
+fn other(error: Error) -> Found {
+    Found {
+        there: There::Other,
+        failed: Some(error),
     }
-    if libc::lseek(fd, 0, SEEK_CUR) < 0 {
-        libc::close(fd);
-        return There::Other;
+}
+
+// Looks into a file that was opened, as far as tables go: a longer file has `LOOK` bytes. A pipe, which has no position, is no such file.
+fn look_into<F: Read + Seek>(file: &mut F) -> Found {
+    if let Err(error) = file.stream_position() {
+        return other(error);
     }
     let mut bytes = [0u8; LOOK];
-    let got = read_whole(fd, &mut bytes);
-    libc::close(fd);
-    if got.failed {
-        return There::Other;
+    let got = read_whole(file, &mut bytes);
+    match got.failed {
+        Some(error) => other(error),
+        None => Found {
+            there: seen(&bytes, got.length),
+            failed: None,
+        },
     }
-    seen(&bytes, got.length)
+}
+
+// Looks at a name. A name of no bytes, which no file can have, is among those where anything else stands.
+fn look<F: Files>(rt: &F, name: &[u8]) -> Found {
+    match open_named(rt, OpenOptions::new().read(true).write(true), name) {
+        Ok(mut file) => look_into(&mut file),
+        Err(error) if error.kind() == ErrorKind::NotFound && 0 < name.len() => Found {
+            there: There::Nothing,
+            failed: None,
+        },
+        Err(error) => other(error),
+    }
 }
 
 // Whether a table of so many bytes may take a name: it replaces nothing but a file that is exactly as long. A problem file is longer than
@@ -103,56 +127,82 @@ fn may_clear(there: There, bytes: usize) -> bool
 }
 
 // Says why a table of so many bytes may not take a name.
-fn refuse(name: &[u8], there: There, bytes: usize) {
-    let There::Bytes(_) = there else {
-        fail(b"plan", name);
+fn refuse<W: Write>(messages: &mut W, name: &[u8], found: Found, bytes: usize) {
+    if let Some(error) = found.failed {
+        fail(messages, b"plan", name, &error);
         return;
-    };
-    complain(b"plan: ");
-    complain(name);
-    complain(b": is there and is no table of this file, which would have ");
-    io::print_decimal(STDERR_FILENO, bytes as u64);
-    complain(b" bytes: it is not replaced\n");
+    }
+    complain(messages, b"plan: ");
+    complain(messages, name);
+    complain(
+        messages,
+        b": is there and is no table of this file, which would have ",
+    );
+    let _ = write!(messages, "{bytes}");
+    complain(messages, b" bytes: it is not replaced\n");
 }
 
 // Whether a table of so many bytes can take this name and its part file; where not, that is said.
-fn is_free(name: &[u8], part: &[u8], bytes: usize) -> bool {
-    let there = look(name);
-    if !may_take(there, bytes) {
-        refuse(name, there, bytes);
+fn is_free<F: Files, W: Write>(
+    rt: &F,
+    messages: &mut W,
+    name: &[u8],
+    part: &[u8],
+    bytes: usize,
+) -> bool {
+    let found = look(rt, name);
+    if !may_take(found.there, bytes) {
+        refuse(messages, name, found, bytes);
         return false;
     }
-    let begun = look(part);
-    if !may_clear(begun, bytes) {
-        refuse(part, begun, bytes);
+    let begun = look(rt, part);
+    if !may_clear(begun.there, bytes) {
+        refuse(messages, part, begun, bytes);
         return false;
     }
     true
 }
 
 // Writes a table to its part file, which must be new. Where that fails it is said, and no part file is left.
-fn write_part(name: &[u8], part: &[u8], bytes: &[u8]) -> bool {
-    let fd = os::create(part);
-    if fd < 0 {
-        fail(b"plan", name);
+fn write_part<F: Files, W: Write>(
+    rt: &F,
+    messages: &mut W,
+    name: &[u8],
+    part: &[u8],
+    bytes: &[u8],
+) -> bool {
+    let file = match open_named(rt, OpenOptions::new().write(true).create_new(true), part) {
+        Ok(file) => file,
+        Err(error) => {
+            fail(messages, b"plan", name, &error);
+            return false;
+        }
+    };
+    if let Err(error) = write_closing(file, bytes) {
+        fail(messages, b"plan", name, &error);
+        remove(rt, part);
         return false;
     }
-    if write_closing(fd, bytes) {
-        return true;
-    }
-    fail(b"plan", name);
-    os::unlink(part);
-    false
+    true
+}
+
+// Gives a file another name.
+fn rename<F: Files>(rt: &F, from: &[u8], to: &[u8]) -> io::Result<()> {
+    let old = path_of(from)?;
+    let new = path_of(to)?;
+    fs::rename(rt, old, new)
 }
 
 // Gives a part file its name. Where that fails it is said, and no part file is left.
-fn place(name: &[u8], part: &[u8]) -> bool {
-    if os::rename(part, name) == 0 {
-        return true;
+fn place<F: Files, W: Write>(rt: &F, messages: &mut W, name: &[u8], part: &[u8]) -> bool {
+    match rename(rt, part, name) {
+        Ok(()) => true,
+        Err(error) => {
+            fail(messages, b"plan", name, &error);
+            remove(rt, part);
+            false
+        }
     }
-    fail(b"plan", name);
-    os::unlink(part);
-    false
 }
 
 // The name of a part file: the table's name and `.part`.
@@ -196,17 +246,19 @@ fn do_clash(name: &[u8], part: &[u8], name2: &[u8], part2: &[u8]) -> bool
 }
 
 // Whether both names can take their tables while the part files are there, which are empty: neither is a part file in another spelling.
-fn are_apart(name: &[u8], bytes: usize, name2: &[u8], bytes2: usize) -> bool {
-    let there = look(name);
-    if !may_take(there, bytes) {
+fn are_apart<F: Files>(rt: &F, name: &[u8], bytes: usize, name2: &[u8], bytes2: usize) -> bool {
+    let found = look(rt, name);
+    if !may_take(found.there, bytes) {
         return false;
     }
-    let there2 = look(name2);
-    may_take(there2, bytes2)
+    let found2 = look(rt, name2);
+    may_take(found2.there, bytes2)
 }
 
 // Whether both part files can be made, which is tried with empty ones; where one cannot, that is said. Those of an earlier run are removed.
-fn can_be_made(
+fn can_be_made<F: Files, W: Write>(
+    rt: &F,
+    messages: &mut W,
     name: &[u8],
     part: &[u8],
     bytes: usize,
@@ -214,26 +266,28 @@ fn can_be_made(
     part2: &[u8],
     bytes2: usize,
 ) -> bool {
-    os::unlink(part);
-    os::unlink(part2);
-    if !write_part(name, part, b"") {
+    remove(rt, part);
+    remove(rt, part2);
+    if !write_part(rt, messages, name, part, b"") {
         return false;
     }
-    if !write_part(name2, part2, b"") {
-        os::unlink(part);
+    if !write_part(rt, messages, name2, part2, b"") {
+        remove(rt, part);
         return false;
     }
-    let is_apart = are_apart(name, bytes, name2, bytes2);
-    os::unlink(part);
-    os::unlink(part2);
+    let is_apart = are_apart(rt, name, bytes, name2, bytes2);
+    remove(rt, part);
+    remove(rt, part2);
     if !is_apart {
-        complain(b"plan: VALUES and PICKS need two names\n");
+        complain(messages, b"plan: VALUES and PICKS need two names\n");
     }
     is_apart
 }
 
 // Whether two names can take tables of so many bytes; where not, that is said, and no file is lost but part files of an earlier run.
-fn are_ready(
+fn are_ready<F: Files, W: Write>(
+    rt: &F,
+    messages: &mut W,
     name: &[u8],
     part: &[u8],
     bytes: usize,
@@ -242,20 +296,26 @@ fn are_ready(
     bytes2: usize,
 ) -> bool {
     if do_clash(name, part, name2, part2) {
-        complain(b"plan: VALUES and PICKS need two names\n");
+        complain(messages, b"plan: VALUES and PICKS need two names\n");
         return false;
     }
-    if !is_free(name, part, bytes) {
+    if !is_free(rt, messages, name, part, bytes) {
         return false;
     }
-    if !is_free(name2, part2, bytes2) {
+    if !is_free(rt, messages, name2, part2, bytes2) {
         return false;
     }
-    can_be_made(name, part, bytes, name2, part2, bytes2)
+    can_be_made(rt, messages, name, part, bytes, name2, part2, bytes2)
 }
 
 // Whether two names can take the tables of a file, its values and its picks. A file that is refused has none.
-fn can_save(file: &[u8], name: &[u8], name2: &[u8]) -> bool
+fn can_save<F: Files, W: Write>(
+    rt: &F,
+    messages: &mut W,
+    file: &[u8],
+    name: &[u8],
+    name2: &[u8],
+) -> bool
     requires { Named name.now name2.now }
 {
     let states = states_in(file);
@@ -267,6 +327,8 @@ fn can_save(file: &[u8], name: &[u8], name2: &[u8]) -> bool
     let mut second = [0u8; PART];
     let j = part_of(name2, &mut second);
     are_ready(
+        rt,
+        messages,
         name,
         &first[..i],
         VALUE_BYTES * states,
@@ -277,7 +339,14 @@ fn can_save(file: &[u8], name: &[u8], name2: &[u8]) -> bool
 }
 
 // Writes both part files, and gives them their names once both are whole. The names are looked at once more, since a run may take long.
-fn save(name: &[u8], values: &[u32], name2: &[u8], picks: &[u16])
+fn save<F: Files, W: Write>(
+    rt: &F,
+    messages: &mut W,
+    name: &[u8],
+    values: &[u32],
+    name2: &[u8],
+    picks: &[u16],
+)
     requires { Named name.now name2.now }
 {
     let mut first = [0u8; PART];
@@ -288,36 +357,43 @@ fn save(name: &[u8], values: &[u32], name2: &[u8], picks: &[u16])
     let n = put_values(values, &mut value_bytes);
     let mut pick_bytes = [0u8; PICKS_ROOM];
     let m = put_picks(picks, &mut pick_bytes);
-    if !are_ready(name, &first[..i], n, name2, &second[..j], m) {
+    if !are_ready(rt, messages, name, &first[..i], n, name2, &second[..j], m) {
         return;
     }
-    if !write_part(name, &first[..i], &value_bytes[..n]) {
+    if !write_part(rt, messages, name, &first[..i], &value_bytes[..n]) {
         return;
     }
-    if !write_part(name2, &second[..j], &pick_bytes[..m]) {
-        os::unlink(&first[..i]);
+    if !write_part(rt, messages, name2, &second[..j], &pick_bytes[..m]) {
+        remove(rt, &first[..i]);
         return;
     }
-    if !place(name, &first[..i]) {
-        os::unlink(&second[..j]);
+    if !place(rt, messages, name, &first[..i]) {
+        remove(rt, &second[..j]);
         return;
     }
-    place(name2, &second[..j]);
+    place(rt, messages, name2, &second[..j]);
 }
 
 // Plans the input by a run of some kind, and saves its values and picks under two names. One byte more than `plan` holds is read, which is
 // enough to refuse the input (`Plans`).
-fn plan_input(kind: Kind, is_saving: bool, name: &[u8], name2: &[u8])
+fn plan_input<R: Files + Input + Print, W: Write>(
+    rt: &R,
+    messages: &mut W,
+    kind: Kind,
+    is_saving: bool,
+    name: &[u8],
+    name2: &[u8],
+)
     requires { Named name.now name2.now }
 {
     let mut page = [0u8; PAGE];
-    let got = read_whole(STDIN_FILENO, &mut page);
-    if got.failed {
-        fail(b"plan", b"standard input");
+    let got = read_whole(&mut rt.reader(), &mut page);
+    if let Some(error) = got.failed {
+        fail(messages, b"plan", b"standard input", &error);
         return;
     }
     let n = got.length;
-    if is_saving && n <= PLAN_HOLDS && !can_save(&page[..n], name, name2) {
+    if is_saving && n <= PLAN_HOLDS && !can_save(rt, messages, &page[..n], name, name2) {
         return;
     }
     let mut values = [0u32; MAX_STATES];
@@ -325,58 +401,85 @@ fn plan_input(kind: Kind, is_saving: bool, name: &[u8], name2: &[u8])
     let planned = programs::plan(kind, &mut page, n, &mut values, &mut picks);
     let length = planned.length;
     let states = planned.states;
-    if !io::write_all(STDOUT_FILENO, &page[..length]) {
-        fail(b"plan", b"standard output");
+    if let Err(error) = rt.write_all(&page[..length]) {
+        fail(messages, b"plan", b"standard output", &error);
     }
     if is_saving && 0 < states {
-        save(name, &values[..states], name2, &picks[..states]);
+        save(
+            rt,
+            messages,
+            name,
+            &values[..states],
+            name2,
+            &picks[..states],
+        );
     }
 }
 
 // Plans with the two names that were given, arguments `i` and `j`. They are looked at before the run.
-fn plan_named(kind: Kind, i: usize, j: usize) {
-    let mut first = io::buffer();
-    let n = os::arg(i, &mut first);
-    if os::errno() != 0 {
-        fail(b"plan", b"VALUES");
-        return;
-    }
-    let mut second = io::buffer();
-    let m = os::arg(j, &mut second);
-    if os::errno() != 0 {
-        fail(b"plan", b"PICKS");
-        return;
-    }
-    plan_input(kind, true, &first[..n], &second[..m]);
+fn plan_named<R: Env + Files + Input + Print, W: Write>(
+    rt: &R,
+    messages: &mut W,
+    kind: Kind,
+    i: usize,
+    j: usize,
+) {
+    let mut first = [0u8; NAME];
+    let n = match argument(rt, i, &mut first) {
+        Ok(n) => n,
+        Err(error) => {
+            fail(messages, b"plan", b"VALUES", &error);
+            return;
+        }
+    };
+    let mut second = [0u8; NAME];
+    let m = match argument(rt, j, &mut second) {
+        Ok(m) => m,
+        Err(error) => {
+            fail(messages, b"plan", b"PICKS", &error);
+            return;
+        }
+    };
+    plan_input(rt, messages, kind, true, &first[..n], &second[..m]);
 }
 
 // Plans by a run of some kind. What it is given besides, from argument `at` on, is nothing or two names.
-fn plan_by(kind: Kind, at: usize, count: usize) {
+fn plan_by<R: Env + Files + Input + Print, W: Write>(
+    rt: &R,
+    messages: &mut W,
+    kind: Kind,
+    at: usize,
+    count: usize,
+) {
     if count <= at {
-        plan_input(kind, false, b"", b"");
+        plan_input(rt, messages, kind, false, b"", b"");
         return;
     }
-    if count - at == 2 && are_names(at, count) {
-        plan_named(kind, at, at + 1);
+    if count - at == 2 && are_names(rt, at, count) {
+        plan_named(rt, messages, kind, at, at + 1);
         return;
     }
     complain(
+        messages,
         b"plan: give no names, or two: VALUES PICKS, after --finish where the run shall finish\n",
     );
 }
 
 // Whether the first argument is `--finish`.
-fn is_finishing() -> bool {
+fn is_finishing<E: Env>(rt: &E) -> bool {
     let mut word = [0u8; 8];
-    let n = os::arg(1, &mut word);
-    are_equal(&word[..n], b"--finish")
+    match argument(rt, 1, &mut word) {
+        Ok(n) => are_equal(&word[..n], b"--finish"),
+        Err(_) => false,
+    }
 }
 
-fn main() {
-    let count = os::arg_count();
-    if is_finishing() {
-        plan_by(Kind::Finishing, 2, count);
+fn main(rt: HostRuntime) {
+    let mut messages = rt.stderr();
+    let count = arg_count(&rt);
+    if is_finishing(&rt) {
+        plan_by(&rt, &mut messages, Kind::Finishing, 2, count);
     } else {
-        plan_by(Kind::Plain, 1, count);
+        plan_by(&rt, &mut messages, Kind::Plain, 1, count);
     }
 }
