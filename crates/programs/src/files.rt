@@ -4,10 +4,9 @@ ghost use Rattle.std.specs.Prelude.{◌+◌, ◌≤◌, IfOk, length};
 use printing::messages::{complain, complain_of};
 use std::env::FillError;
 use std::fs::OpenOptions;
-use std::io;
 use std::io::{Error, Read, Write};
 use std::rt::{Env, Files};
-use std::str;
+use std::{io, str};
 
 // Room for the longest argument that is read.
 pub const NAME: usize = 4096;

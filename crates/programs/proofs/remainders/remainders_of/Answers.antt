@@ -1,0 +1,6 @@
+-- `remainders_of` fills a table of zeros where there was a run.
+use Rattle.programs.proofs.Remaining.{none_filled}
+use Rattle.programs.proofs.remainders.remainders_of.Goals as goal
+
+pub returns-else-n-gt0 : goal.returns-else-n-gt0
+returns-else-n-gt0 c = none_filled c.if-n-gt0.false
