@@ -24,7 +24,7 @@ returns-then-tolerance c =
     record {
       says = λ p a b d e w.
           let s : p.start < p.states = omega arith in
-          let t : between 1 max_tolerance p.tolerance ≡ false = rw d (not-true _ (sym c.out_of_range-tolerance.ensures ∙ c.if-tolerance.true)) in
+          let t : between 1 max_tolerance p.tolerance ≡ false = rw d (not-true _ (cc)) in
           rw (lt-ltb _ _ s, t);
       most = omega arith;
     }
@@ -35,8 +35,8 @@ returns-then-penalty c =
     record {
       says = λ p a b d e w.
           let s : p.start < p.states = omega arith in
-          let t : between 1 max_tolerance p.tolerance ≡ true = rw d (not-false _ (sym c.out_of_range-tolerance.ensures ∙ c.if-tolerance.false)) in
-          let k : between 1 max_penalty p.penalty ≡ false = rw e (not-true _ (sym c.out_of_range-penalty.ensures ∙ c.if-penalty.true)) in
+          let t : between 1 max_tolerance p.tolerance ≡ true = rw d (not-false _ (cc)) in
+          let k : between 1 max_penalty p.penalty ≡ false = rw e (not-true _ (cc)) in
           rw (lt-ltb _ _ s, t, k);
       most = omega arith;
     }
@@ -47,9 +47,9 @@ returns-then-total c =
     record {
       says = λ p a b d e w.
           let s : p.start < p.states = omega arith in
-          let t : between 1 max_tolerance p.tolerance ≡ true = rw d (not-false _ (sym c.out_of_range-tolerance.ensures ∙ c.if-tolerance.false)) in
-          let k : between 1 max_penalty p.penalty ≡ true = rw e (not-false _ (sym c.out_of_range-penalty.ensures ∙ c.if-penalty.false)) in
-          let m : one_of p.total weight_totals ≡ false = rw w (not-true _ (sym c.unknown_total-total.ensures ∙ c.if-total.true)) in
+          let t : between 1 max_tolerance p.tolerance ≡ true = rw d (not-false _ (cc)) in
+          let k : between 1 max_penalty p.penalty ≡ true = rw e (not-false _ (cc)) in
+          let m : one_of p.total weight_totals ≡ false = rw w (not-true _ (cc)) in
           rw (lt-ltb _ _ s, t, k, m);
       most = omega arith;
     }
@@ -60,9 +60,9 @@ returns c =
     record {
       says = λ p a b d e w.
           let s : p.start < p.states = omega arith in
-          let t : between 1 max_tolerance p.tolerance ≡ true = rw d (not-false _ (sym c.out_of_range-tolerance.ensures ∙ c.if-tolerance.false)) in
-          let k : between 1 max_penalty p.penalty ≡ true = rw e (not-false _ (sym c.out_of_range-penalty.ensures ∙ c.if-penalty.false)) in
-          let m : one_of p.total weight_totals ≡ true = rw w (not-false _ (sym c.unknown_total-total.ensures ∙ c.if-total.false)) in
+          let t : between 1 max_tolerance p.tolerance ≡ true = rw d (not-false _ (cc)) in
+          let k : between 1 max_penalty p.penalty ≡ true = rw e (not-false _ (cc)) in
+          let m : one_of p.total weight_totals ≡ true = rw w (not-false _ (cc)) in
           rw (lt-ltb _ _ s, t, k, m);
       most = omega arith;
     }
