@@ -41,7 +41,7 @@ fn indent(line: &str) -> usize {
     line.len() - line.trim_start().len()
 }
 
-/// What a file of specs declares for others: its definitions, theorems, records with their fields, data
+/// What a file of specs or of theorems declares for others: its definitions, theorems, records with their fields, data
 /// with their constructors.
 fn declared(text: &str) -> HashSet<String> {
     let mut names = HashSet::new();
@@ -100,8 +100,10 @@ fn names() -> HashSet<String> {
         let is_below = |folder: &str| file.iter().any(|part| part == folder);
         let kind = file.extension().and_then(|e| e.to_str()).unwrap_or("");
         let stem = file.file_stem().and_then(|s| s.to_str()).unwrap_or("").to_string();
+        // these two have no functions: what stands in their proofs is theorems
+        let holds_theorems = is_below("model") || is_below("guarantee");
         match kind {
-            "antt" if is_below("specs") => {
+            "antt" if is_below("specs") || is_below("proofs") && holds_theorems => {
                 names.extend(declared(&read(&file)));
                 names.insert(format!("{stem}.antt"));
             }
