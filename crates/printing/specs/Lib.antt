@@ -1,2 +1,3 @@
 -- What the contracts of `printing` cite.
 pub mod Texts
+pub mod Told

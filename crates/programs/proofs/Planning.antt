@@ -97,6 +97,12 @@ run_room kind f budget {t} {a} {k} is e = go (told kind f budget t)
           walk_room = omega (arith, long.list_long);
         }
 
+-- so that its states lie within a walk list that is as long as the one that it was lent
+pub run_walk_room
+    : (kind : Kind) (f : List ℕ) (budget : ℕ) (t : Tables) (walk : List ℕ) {a : Answer} {k : ℕ}
+    → a ≡ (solution kind f budget t).answer → k ≡ run_states a (problem_of f).states → length walk ≡ length t.walk_list → k ≤ length walk
+run_walk_room kind f budget t walk is e long = le_trans (run_room kind f budget is e).walk_room (le_of_eq (sym long))
+
 -- where there are states the run was no refusal
 pub run_said : (r : SolveAnswer) (n : ℕ) → 0 < run_states (answer_of r) n → (solve_carries r).said ≡ Said.refused → ⊥
 unfolding run_states

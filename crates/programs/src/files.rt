@@ -1,5 +1,8 @@
 // The arguments, reading files, and saying on standard error what failed.
-ghost use Rattle.std.specs.Prelude.{◌+◌, ◌≤◌, IfOk, length};
+ghost use Rattle.std.specs.Prelude.{◌+◌, ◌≤◌, ◌≡◌, ◌++◌, IfOk, IsTrue, MatchResult, length};
+ghost use Rattle.std.specs.Str.{IsUtf8};
+ghost use Rattle.model.specs.Lines.{codes};
+ghost use Rattle.printing.specs.Told.{AppendsReason};
 
 use printing::messages::{complain, complain_of};
 use std::env::FillError;
@@ -64,11 +67,15 @@ pub fn read_whole<R: Read>(input: &mut R, buf: &mut [u8]) -> Got
     }
 }
 
-// Writes a line to standard error: the program, the name, and why a call failed.
-pub fn fail<W: Write>(messages: &mut W, program: &[u8], name: &[u8], error: &Error) {
-    complain(messages, program);
-    complain(messages, b": ");
-    complain_of(messages, name, error);
+// Writes a line to standard error, the program, the name, and why a call failed, and answers whether all of it is there.
+pub fn fail<W: Write>(messages: &mut W, program: &[u8], name: &[u8], error: &Error) -> bool
+    ensures { IsTrue result → AppendsReason
+        (W.contents messages.old) (W.contents messages.new) (program.now ++ codes ": " ++ name.now ++ codes ": ") }
+{
+    let begun = complain(messages, program);
+    let parted = complain(messages, b": ");
+    let told = complain_of(messages, name, error);
+    begun && parted && told
 }
 
 // Puts argument `i` at the front of `name`, and answers its length, or says that it is missing or too long.
@@ -83,15 +90,19 @@ pub fn argument<E: Env>(rt: &E, i: usize, name: &mut [u8]) -> io::Result<usize>
 }
 
 // The path that a name is, where it is UTF-8.
-pub fn path_of(name: &[u8]) -> io::Result<&str> {
+pub fn path_of(name: &[u8]) -> io::Result<&str>
+    ensures { MatchResult result (λ path. path.now ≡ name.now) (λ _. IsUtf8 name.now → ⊥) }
+{
     match str::from_utf8(name) {
         Ok(path) => Ok(path),
         Err(_) => Err(Error::from_raw_os_error(NO_TEXT)),
     }
 }
 
-// Opens the file of a name, as `how` says.
-pub fn open_named<F: Files>(rt: &F, how: &OpenOptions, name: &[u8]) -> io::Result<F::File> {
+// Opens the file of a name, as `how` says: one that is no text is refused. What is there no contract can say.
+pub fn open_named<F: Files>(rt: &F, how: &OpenOptions, name: &[u8]) -> io::Result<F::File>
+    ensures { IfOk result (λ _. IsUtf8 name.now) }
+{
     let path = path_of(name)?;
     how.open(rt, path)
 }
@@ -146,7 +157,9 @@ fn is_dashed<E: Env>(rt: &E, i: usize) -> bool {
 
 // Whether the arguments from `first` on, of `count` with the program's own name, may be names: no name begins with `-`, since it may be
 // meant otherwise.
-pub fn are_names<E: Env>(rt: &E, first: usize, count: usize) -> bool {
+pub fn are_names<E: Env>(rt: &E, first: usize, count: usize) -> bool
+    ensures { count ≤ first → IsTrue result }
+{
     let mut i = first;
     while i < count {
         if is_dashed(rt, i) {
@@ -163,7 +176,7 @@ fn is_given<E: Env>(rt: &E, i: usize) -> bool {
     !matches!(rt.arg(i, &mut front), Err(FillError::NotPresent))
 }
 
-// How many arguments there are, with the program's own name.
+// How many arguments there are, with the program's own name. No contract can say what a program is given.
 pub fn arg_count<E: Env>(rt: &E) -> usize {
     let mut count = 0;
     while count < usize::MAX && is_given(rt, count) {

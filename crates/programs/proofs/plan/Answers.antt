@@ -7,7 +7,7 @@ use lib.Seq.{length-take-le}
 use Rattle.model.specs.Buffers.{line_most, plan_room}
 use Rattle.model.specs.Limits.{max_states, plan_holds}
 use Rattle.guarantee.specs.Carries.{answer_known}
-use Rattle.programs.proofs.Planning.{run_room, plans, held_plans, held_passes, not_held, longer_plans}
+use Rattle.programs.proofs.Planning.{run_room, run_walk_room, plans, held_plans, held_passes, not_held, longer_plans}
 use Rattle.programs.proofs.Remaining.{table_long, table_low}
 use native.Mathlib.Omega.{arith}
 use Rattle.programs.proofs.plan.Goals as goal
@@ -22,21 +22,18 @@ returns-then-read-gt-PLAN_HOLDS c =
 
 pub slice_bounds-walk-end : goal.slice_bounds-walk-end
 slice_bounds-walk-end c =
-    let walk_room : c.run-ran.result.states ≤ length c.run-ran.new.walk = let room = run_room _ _ _ (answer_known c.run-ran.result.answer _ c.run-ran.ensures.leaves.answer) c.run-ran.ensures.states_are in le_trans room.walk_room (le_of_eq (sym c.run-ran.auto.walk)) in
-    walk_room
+    run_walk_room _ _ _ _ _ (answer_known c.run-ran.result.answer _ c.run-ran.ensures.leaves.answer) c.run-ran.ensures.states_are c.run-ran.auto.walk
 
 pub slice_bounds-plan_text-end-4 : goal.slice_bounds-plan_text-end-4
 slice_bounds-plan_text-end-4 c =
-    let walk_room : c.run-ran.result.states ≤ length c.run-ran.new.walk = let room = run_room _ _ _ (answer_known c.run-ran.result.answer _ c.run-ran.ensures.leaves.answer) c.run-ran.ensures.states_are in le_trans room.walk_room (le_of_eq (sym c.run-ran.auto.walk)) in
-    sym (length-take-le _ _ (walk_room))
+    sym (length-take-le _ _ (run_walk_room _ _ _ _ _ (answer_known c.run-ran.result.answer _ c.run-ran.ensures.leaves.answer) c.run-ran.ensures.states_are c.run-ran.auto.walk))
 
 pub plan_text-length-requires : goal.plan_text-length-requires
 plan_text-length-requires c =
-    let walk_room : c.run-ran.result.states ≤ length c.run-ran.new.walk = let room = run_room _ _ _ (answer_known c.run-ran.result.answer _ c.run-ran.ensures.leaves.answer) c.run-ran.ensures.states_are in le_trans room.walk_room (le_of_eq (sym c.run-ran.auto.walk)) in
     let values_long : length c.args.values.now ≡ max_states = omega (arith, c.run-ran.type_inv) in
     let picks_long : length c.args.picks.now ≡ max_states = omega (arith, c.run-ran.type_inv) in
     let room = run_room _ _ _ (answer_known c.run-ran.result.answer _ c.run-ran.ensures.leaves.answer) c.run-ran.ensures.states_are in
-    let listed = length-take-le _ _ (walk_room) in
+    let listed = length-take-le _ _ (run_walk_room _ _ _ _ _ (answer_known c.run-ran.result.answer _ c.run-ran.ensures.leaves.answer) c.run-ran.ensures.states_are c.run-ran.auto.walk) in
     record {
       states = le_trans (le_of_eq listed) room.few;
       values_long = le_trans (le_of_eq listed) (le_trans room.values_room (le_of_eq (sym c.run-ran.auto.values)));
@@ -48,7 +45,6 @@ plan_text-length-requires c =
 
 pub returns : goal.returns
 returns c =
-    let walk_room : c.run-ran.result.states ≤ length c.run-ran.new.walk = let room = run_room _ _ _ (answer_known c.run-ran.result.answer _ c.run-ran.ensures.leaves.answer) c.run-ran.ensures.states_are in le_trans room.walk_room (le_of_eq (sym c.run-ran.auto.walk)) in
     let page-size : length c.args.page.now ≡ plan_holds + 1 = omega (arith, c.front.type_inv) in
     let values_long : length c.args.values.now ≡ max_states = omega (arith, c.run-ran.type_inv) in
     let picks_long : length c.args.picks.now ≡ max_states = omega (arith, c.run-ran.type_inv) in
@@ -57,7 +53,7 @@ returns c =
     held_plans c.args.kind f c.args.page.now c.args.values.now c.args.picks.now c.args.read c.if-read-gt-PLAN_HOLDS.false
     (page-size) read c.front.ensures
     (plans _ _ _ _ (answer_known c.run-ran.result.answer _ c.run-ran.ensures.leaves.answer) c.run-ran.ensures.leaves.left
-    c.run-ran.ensures.states_are (walk_room) c.run-ran.ensures.remainders_are
+    c.run-ran.ensures.states_are (run_walk_room _ _ _ _ _ (answer_known c.run-ran.result.answer _ c.run-ran.ensures.leaves.answer) c.run-ran.ensures.states_are c.run-ran.auto.walk) c.run-ran.ensures.remainders_are
     (held_passes c.args.page.now c.args.read c.if-read-gt-PLAN_HOLDS.false c.front.ensures)
     (values_long) (picks_long)
     (out-wide) c.run-ran.auto.values c.run-ran.auto.picks c.plan_text-length.ensures.holds c.plan_text-length.ensures.brief)
