@@ -5,47 +5,38 @@ use model::LINE_MOST;
 use printing::messages::complain;
 use printing::table_files::{PICKS_ROOM, VALUES_ROOM};
 use programs::FILE_ROOM;
-use programs::files::{are_names, arg_count, fail, read_named};
+use programs::files::{Program, Told, are_names, arg_count};
 use std::io::Write;
 use std::rt::{Env, Files};
 
 // A file that is longer than the longest is refused as its front is, and a longer table gets the answer of its entries of states
 // (`Audits`).
-fn audit_named<R: Env + Files + Print, W: Write>(rt: &R, messages: &mut W) {
-    let mut file = [0u8; FILE_ROOM];
-    let a = read_named(rt, messages, b"audit", 1, &mut file);
-    if a.failed.is_some() {
-        return;
-    }
-    let mut values = [0u8; VALUES_ROOM];
-    let b = read_named(rt, messages, b"audit", 2, &mut values);
-    if b.failed.is_some() {
-        return;
-    }
-    let mut picks = [0u8; PICKS_ROOM];
-    let c = read_named(rt, messages, b"audit", 3, &mut picks);
-    if c.failed.is_some() {
-        return;
-    }
-    let i = a.length;
-    let j = b.length;
-    let k = c.length;
-    let mut out = [0u8; LINE_MOST];
-    let n = programs::audit_line(&file, i, &values, j, &picks, k, &mut out);
-    if let Err(error) = rt.write_all(&out[..n]) {
-        fail(messages, b"audit", b"standard output", &error);
-    }
+fn audit_named<R: Env + Files + Print, W: Write>(program: &mut Program<R, W>) -> Result<(), Told> {
+    let mut room = [0u8; FILE_ROOM];
+    let file = program.read_named(1, &mut room)?;
+    let mut room = [0u8; VALUES_ROOM];
+    let values = program.read_named(2, &mut room)?;
+    let mut room = [0u8; PICKS_ROOM];
+    let picks = program.read_named(3, &mut room)?;
+    let mut line = [0u8; LINE_MOST];
+    let n = programs::audit_line(file, values, picks, &mut line);
+    let printed = program.rt.write_all(&line[..n]);
+    program.told(b"standard output", printed)
 }
 
 fn main(rt: HostRuntime) {
-    let mut messages = rt.stderr();
+    let mut program = Program {
+        name: b"audit",
+        rt: &rt,
+        messages: rt.stderr(),
+    };
     let count = arg_count(&rt);
     if count == 4 && are_names(&rt, 1, count) {
-        audit_named(&rt, &mut messages);
+        let _ = audit_named(&mut program);
         return;
     }
     complain(
-        &mut messages,
+        &mut program.messages,
         b"audit: give three names: FILE VALUES PICKS\n",
     );
 }

@@ -1,5 +1,4 @@
 -- Laws on plain values that the answers cite.
-pub mod Differences
 pub mod Highs
 pub mod Picking
 pub mod Stops

@@ -1,11 +1,11 @@
 -- The tests of questions 16, 18 and 19 at one state, and these questions in order.
 use Rattle.std.specs.Prelude.{ℕ, ◌+◌, ◌-◌, Bool, ◌||◌, not, List, leb, eqb, pos}
 use Rattle.std.proofs.Math.IntN.{sub_ℕ}
-use Rattle.reading.specs.Tests.{own_at}
 use Rattle.model.specs.Limits.{give_up}
 use Rattle.model.specs.Problem.{Problem, give_up_cost, own_row}
 use Rattle.model.specs.Walk.{walk, least_cost}
-use Rattle.model.specs.Audit.{Audited, accepted, refused, or_else, bounded_on, open_state, pick_value, stray_state, slack_state}
+use Rattle.model.specs.Audit.{Audited, accepted, refused, or_else, bounded_on, open_state, pick_value, stray_state}
+use Rattle.model.specs.Audit.{slack_state}
 
 -- V is zero at a goal and at most 1000 × D elsewhere
 abbrev pub bounded_at : Problem → (ℕ → ℕ) → ℕ → Bool
@@ -18,10 +18,6 @@ fits_at p picks marks = λ s. not (open_state p marks s) || (eqb (picks s) give_
 -- a reached pick's value is at most V + e - 1, goals aside
 abbrev pub close_at : Problem → (ℕ → ℕ) → (ℕ → ℕ) → List ℕ → ℕ → Bool
 close_at p v picks marks = λ s. not (open_state p marks s) || leb (pick_value p v picks s) (v s + p.tolerance - 1)
-
--- giving up, or between the state's first row and the next state's by the index
-abbrev pub fitting : List ℕ → ℕ → ℕ → Bool
-fitting index pick s = eqb pick give_up || own_at index s pick
 
 -- questions 18 and 19 in order, and then the least cost
 abbrev pub pick_questions : Problem → (ℕ → ℕ) → (ℕ → ℕ) → Audited

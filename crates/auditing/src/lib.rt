@@ -2,6 +2,7 @@
 #![tactic(auto)]
 
 mod asking;
+pub mod plan;
 mod searches;
 
 ghost use Rattle.std.specs.Prelude.{◌≡◌};
@@ -12,43 +13,33 @@ ghost use Rattle.model.specs.Sections.{problem_of};
 ghost use Rattle.model.specs.Value.{by_state};
 ghost use Rattle.model.specs.Promises.{Close, ExcessFits};
 ghost use Rattle.reading.specs.Room.{IndexRoom};
-ghost use Rattle.auditing.specs.TablesAsked.{FileAudited};
+ghost use Rattle.auditing.specs.FileAudited.{FileAudited};
 
-use crate::asking::{refused, table_questions};
+use crate::asking::audit_problem;
 use checking::questions::questions;
-use model::{AuditAnswer, FileAnswer};
-use reading::index::{has_few_rows, large_index, small_index};
-use reading::layout::layout_of;
+use model::AuditRefusal;
+use reading::index::with_index;
+use reading::problem::Problem;
 
 // The questions in order, to any bytes and any two tables. The index is that of the file where they all say yes.
-pub fn audit_file(file: &[u8], values: &[u32], picks: &[u16], index: &mut [u32]) -> AuditAnswer
+pub fn audit_file(
+    file: &[u8],
+    values: &[u32],
+    picks: &[u16],
+    index: &mut [u32],
+) -> Result<u32, AuditRefusal>
     requires { IndexRoom file.now index.old }
     ensures { FileAudited
         file.now values.now picks.now index.old index.new
         (audited_of result) }
 {
-    let answer = questions(file, index);
-    if let FileAnswer::Refused { question, place } = answer {
-        return AuditAnswer::Refused {
-            question,
-            place,
-            excess: 0,
-        };
-    }
-    let l = layout_of(file);
-    let n = l.states;
-    if values.len() < n {
-        return refused(15, 0, 0);
-    }
-    if picks.len() < n {
-        return refused(15, 1, 0);
-    }
-    table_questions(file, index, values, picks, n)
+    questions(file, index)?;
+    audit_problem(Problem { file, index }, values, picks)
 }
 
 // The audit of any bytes with any two tables. It changes neither. An accepted table is close, and the excess of a
 // refusal has the sign that its question says.
-pub fn audit(file: &[u8], values: &[u32], picks: &[u16]) -> AuditAnswer
+pub fn audit(file: &[u8], values: &[u32], picks: &[u16]) -> Result<u32, AuditRefusal>
     ensures result_value { audit_carries result ≡ audited_carries (model-audit file.now values.now picks.now) }
     ensures close { (audit_carries result).said ≡ Said.accepted
         → Close
@@ -57,10 +48,5 @@ pub fn audit(file: &[u8], values: &[u32], picks: &[u16]) -> AuditAnswer
     ensures excess { (audit_carries result).said ≡ Said.refused
         → ExcessFits (problem_of file.now).tolerance (audit_carries result).question (audit_carries result).excess }
 {
-    if has_few_rows(file) {
-        let mut index = small_index();
-        return audit_file(file, values, picks, &mut index);
-    }
-    let mut index = large_index();
-    audit_file(file, values, picks, &mut index)
+    with_index(file, &mut |index| audit_file(file, values, picks, index))
 }

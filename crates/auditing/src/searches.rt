@@ -1,163 +1,109 @@
 // Questions 16, 18 and 19 of each state in order, and the value of a pick.
-ghost use Rattle.std.specs.Prelude.{◌≡◌, ◌+◌, ◌≤◌, ◌<◌, ◌⊎◌, eqb, length};
-ghost use Rattle.model.specs.Audit.{open_state, pick_value_on, unbounded_state, stray_state, slack_state};
-ghost use Rattle.model.specs.Limits.{give_up, max_states};
+ghost use Rattle.std.specs.Prelude.{◌≡◌, ◌*◌, ◌≤◌, ◌<◌, ◌⊎◌, eqb, length};
+ghost use Rattle.model.specs.Audit.{open_state, own_pick, pick_value_on, unbounded_state, stray_state, slack_state};
+ghost use Rattle.model.specs.Limits.{give_up, value_bound};
 ghost use Rattle.model.specs.Problem.{give_up_cost};
-ghost use Rattle.model.specs.Questions.{passes, layout_questions};
 ghost use Rattle.model.specs.Sections.{problem_of};
-ghost use Rattle.model.specs.Value.{by_state};
-ghost use Rattle.reading.specs.Ready.{Ready};
-ghost use Rattle.walking.specs.Walkable.{Walkable};
-ghost use Rattle.auditing.specs.StateTests.{bounded_at, fitting, fits_at, close_at};
-ghost use Rattle.auditing.specs.TablesAsked.{CloseAsked};
+ghost use Rattle.model.specs.Value.{row_value, by_state};
+ghost use Rattle.guarantee.specs.Found.{Found};
+ghost use Rattle.walking.specs.Costs.{Costed};
+ghost use Rattle.auditing.specs.Plans.{problem_in, values_in, picks_in};
+ghost use Rattle.auditing.specs.StateTests.{bounded_at, close_at};
 
-use model::GIVE_UP;
+use crate::plan::Plan;
 use reading::index::is_own;
-use reading::states::is_goal;
-use reading::value::row_value;
+use reading::picks::Pick;
+use reading::problem::Problem;
 use walking::walk::MARKS;
 
-// Whether V is zero at a goal and at most `limit`, what giving up costs, elsewhere.
-fn bounded(file: &[u8], values: &[u32], limit: u32, s: usize) -> bool
-    requires { (layout_questions file.now ≡ passes) × (limit ≡ give_up_cost (problem_of file.now))
-        × (s < (problem_of file.now).states) × (s < length values.now) }
-    ensures { result ≡ bounded_at (problem_of file.now) (by_state values.now) s }
+// The value of row r. It is less than twice what fits in 32 bits, whatever the table holds.
+pub fn row_value(problem: Problem<'_>, values: &[u32], r: usize) -> u64
+    requires { ((problem_of problem.file.now).states ≤ length values.now) × (r < (problem_of problem.file.now).rows) }
+    ensures result_value { result ≡ row_value (problem_of problem.entry.file.now) (by_state values.now) r }
+    ensures low { result < 2 * value_bound }
 {
-    let value = values[s];
-    if is_goal(file, s) {
-        return value == 0;
-    }
-    value <= limit
+    problem.row_value(values, r).value
 }
 
-// Question 16: the first state of n at which V is out of bounds, or n.
-pub fn unbounded_state(file: &[u8], values: &[u32], limit: u32, n: usize) -> usize
-    requires { (layout_questions file.now ≡ passes) × (limit ≡ give_up_cost (problem_of file.now))
-        × (n ≡ (problem_of file.now).states) × (n ≤ length values.now) }
-    ensures { result ≡ unbounded_state (problem_of file.now) (by_state values.now) }
-{
-    let mut s = 0;
-    while s < n {
-        if !bounded(file, values, limit, s) {
-            return s;
+impl Plan<'_> {
+    // Whether V is zero at a goal and at most `limit`, what giving up costs, elsewhere.
+    fn is_bounded(self, limit: u32, s: usize) -> bool
+        requires { (limit ≡ give_up_cost (problem_in self)) × (s < self.states) }
+        ensures { result ≡ bounded_at (problem_in self.entry) (values_in self.entry) s }
+    {
+        if self.problem.is_goal(s) {
+            self.values[s] == 0
+        } else {
+            self.values[s] <= limit
         }
-        s += 1;
     }
-    n
-}
 
-// Whether s is reached and no goal.
-fn is_open(file: &[u8], marks: &[u8; MARKS], s: usize) -> bool
-    requires { (layout_questions file.now ≡ passes) × (s < (problem_of file.now).states) × (s < max_states) }
-    ensures { result ≡ open_state (problem_of file.now) marks.now s }
-{
-    if is_goal(file, s) {
-        return false;
+    // Question 16: the first state at which V is out of bounds, if there is one.
+    pub(crate) fn unbounded_state(self) -> Option<usize>
+        ensures { Found self.entry.states (unbounded_state (problem_in self.entry) (values_in self.entry)) result }
+    {
+        let limit = self.problem.give_up_cost();
+        (0..self.states).find(|&s| !self.is_bounded(limit, s))
     }
-    marks[s] != 0
-}
 
-// Whether a pick gives up or is a row of state s.
-fn own_or_given(index: &[u32], pick: u16, s: usize) -> bool
-    requires { s + 1 < length index.now }
-    ensures { result ≡ fitting index.now pick s }
-{
-    if pick == GIVE_UP {
-        return true;
+    // Whether s is reached and no goal.
+    fn is_open(self, marks: &[u8; MARKS], s: usize) -> bool
+        requires { s < self.states }
+        ensures { result ≡ open_state (problem_in self.entry) marks.now s }
+    {
+        !self.problem.is_goal(s) && marks[s] != 0
     }
-    is_own(index, s, pick as u32)
-}
 
-// Whether the pick at s gives up or is a row of s, where s is reached and no goal.
-fn pick_fits(file: &[u8], index: &[u32], picks: &[u16], marks: &[u8; MARKS], s: usize) -> bool
-    requires { Walkable file.now index.now × (s < (problem_of file.now).states) × (s < length picks.now) }
-    ensures { result ≡ fits_at (problem_of file.now) (by_state picks.now) marks.now s }
-{
-    if !is_open(file, marks, s) {
-        return true;
-    }
-    own_or_given(index, picks[s], s)
-}
-
-// Question 18: the first state of n that is reached and no goal and whose pick is neither its row nor giving up, or n.
-pub fn stray_state(
-    file: &[u8],
-    index: &[u32],
-    picks: &[u16],
-    marks: &[u8; MARKS],
-    n: usize,
-) -> usize
-    requires { Walkable file.now index.now × (n ≡ (problem_of file.now).states) × (n ≤ length picks.now) }
-    ensures { result ≡ stray_state (problem_of file.now) (by_state picks.now) marks.now }
-{
-    let mut s = 0;
-    while s < n {
-        if !pick_fits(file, index, picks, marks, s) {
-            return s;
+    // Whether the pick at s gives up or is a row of s.
+    fn is_own(self, s: usize) -> bool
+        requires { s < self.states }
+        ensures { result ≡ own_pick (problem_in self.entry) s (picks_in self.entry s) }
+    {
+        match Pick::from(self.picks[s]) {
+            Pick::GiveUp => true,
+            Pick::Row(r) => is_own(self.problem.index, s, r as u32),
         }
-        s += 1;
     }
-    n
-}
 
-// The value of a pick: the limit where it gives up, else its row value.
-pub fn pick_value(file: &[u8], index: &[u32], values: &[u32], pick: u16, limit: u32) -> u64
-    requires { Ready file.now index.now × ((problem_of file.now).states ≤ length values.now)
-        × (limit ≡ give_up_cost (problem_of file.now)) × ((pick ≡ give_up) ⊎ (pick < (problem_of file.now).rows)) }
-    ensures { result ≡ pick_value_on (eqb pick give_up) (problem_of file.now) (by_state values.now) pick }
-{
-    if pick == GIVE_UP {
-        return limit as u64;
+    // Question 18: the first state that is reached and no goal and whose pick is neither its row nor giving up, if
+    // there is one.
+    pub(crate) fn stray_state(self, marks: &[u8; MARKS]) -> Option<usize>
+        ensures { Found self.entry.states (stray_state (problem_in self.entry) (picks_in self.entry) marks.now) result }
+    {
+        (0..self.states).find(|&s| self.is_open(marks, s) && !self.is_own(s))
     }
-    let q = row_value(file, index, values, pick as usize);
-    q.value
-}
 
-// Whether the value of the pick at s is at most V + e - 1, where s is reached and no goal.
-fn close(
-    file: &[u8],
-    index: &[u32],
-    values: &[u32],
-    picks: &[u16],
-    marks: &[u8; MARKS],
-    limit: u32,
-    tolerance: u32,
-    s: usize,
-) -> bool
-    requires { CloseAsked file.now index.now values.now picks.now marks.now limit tolerance
-        × (s < (problem_of file.now).states) }
-    ensures { result ≡ close_at
-        (problem_of file.now) (by_state values.now) (by_state picks.now) marks.now s }
-{
-    if !is_open(file, marks, s) {
-        return true;
-    }
-    let most = (values[s] as u64) + (tolerance as u64) - 1;
-    pick_value(file, index, values, picks[s], limit) <= most
-}
-
-// Question 19: the first state of n that is reached and no goal and whose pick's value is above V + e - 1, or n.
-pub fn slack_state(
-    file: &[u8],
-    index: &[u32],
-    values: &[u32],
-    picks: &[u16],
-    marks: &[u8; MARKS],
-    limit: u32,
-    tolerance: u32,
-    n: usize,
-) -> usize
-    requires { CloseAsked file.now index.now values.now picks.now marks.now limit tolerance
-        × (n ≡ (problem_of file.now).states) }
-    ensures { result ≡ slack_state
-        (problem_of file.now) (by_state values.now) (by_state picks.now) marks.now }
-{
-    let mut s = 0;
-    while s < n {
-        if !close(file, index, values, picks, marks, limit, tolerance, s) {
-            return s;
+    // The value of a pick: what giving up costs, or its row value.
+    pub(crate) fn pick_value(self, pick: u16) -> u64
+        requires { (pick ≡ give_up) ⊎ (pick < (problem_in self).rows) }
+        ensures result_value { result
+            ≡ pick_value_on (eqb pick give_up) (problem_in self.entry) (values_in self.entry) pick }
+        ensures low { result < 2 * value_bound }
+    {
+        match Pick::from(pick) {
+            Pick::GiveUp => self.problem.give_up_cost() as u64,
+            Pick::Row(r) => row_value(self.problem, self.values, r),
         }
-        s += 1;
     }
-    n
+
+    // Whether the value of the pick at s is at most V + e - 1, where s is reached and no goal.
+    fn is_close(self, marks: &[u8; MARKS], tolerance: u32, s: usize) -> bool
+        requires { Costed self.problem.file.now self.picks.now marks.now
+            × (tolerance ≡ (problem_in self).tolerance) × (s < self.states) }
+        ensures { result ≡ close_at (problem_in self.entry) (values_in self.entry) (picks_in self.entry) marks.now s }
+    {
+        !self.is_open(marks, s)
+            || self.pick_value(self.picks[s]) <= (self.values[s] as u64) + (tolerance as u64) - 1
+    }
+
+    // Question 19: the first state that is reached and no goal and whose pick's value is above V + e - 1, if there is
+    // one.
+    pub(crate) fn slack_state(self, marks: &[u8; MARKS]) -> Option<usize>
+        requires { Costed self.problem.file.now self.picks.now marks.now }
+        ensures { Found self.entry.states
+            (slack_state (problem_in self.entry) (values_in self.entry) (picks_in self.entry) marks.now) result }
+    {
+        let tolerance = self.problem.settings().tolerance;
+        (0..self.states).find(|&s| !self.is_close(marks, tolerance, s))
+    }
 }

@@ -1,21 +1,29 @@
 -- Laws of the backups of a round, one for each event of the code: a backup done, and the loop along the walk list, in which the
 -- backups that are left give the same as all. Every backup keeps the tables sound, so that the next one may be made.
-use mathlib.Core.Path.{◌≡◌, refl, sym, ◌∙◌, ap}
+use mathlib.Core.Path.{◌≡◌, refl, sym, ◌∙◌, ap, subst}
 use Prim.Native.Nat.{ℕ, ◌+◌, ◌≤◌, ◌<◌}
 use native.Mathlib.Numerals.{add-one}
 use native.Mathlib.Omega.{arith}
 use mathlib.Core.Bool.{Bool, true, false, ◌||◌, not}
-use mathlib.Core.List.{List, [], ◌∷◌}
+use mathlib.Core.List.{List, []}
+use mathlib.Core.List.{◌∷◌}
 use lib.Dec.{leb, eqb}
-use lib.ListN.{get_or, length, take, drop}
-use lib.Seq.{get_or-set_same, drop-cons, get_or-take, length-take-le, drop-length}
+use lib.ListN.{get_or, length, drop}
+use lib.Seq.{drop-cons}
+use Rattle.std.proofs.Math.ListN.{drop_of_length-le}
+use Rattle.model.specs.Problem.{Problem}
 use Rattle.model.specs.Sections.{problem_of}
 use Rattle.model.specs.Rounds.{Found, Machine, raise_on, settle, scan_of, backup, backups}
 use Rattle.guarantee.specs.Graphs.{in_place}
 use Rattle.guarantee.specs.Sound.{Sound, backup_sound}
 use Rattle.guarantee.specs.Backups.{Open}
 use Rattle.guarantee.specs.Evaluations.{backups_count}
-use Rattle.backing.specs.Backable.{count_bound, machine, Backable, Kept, ScanDone, Listed}
+use Rattle.backing.specs.declared.Terms.{Terms}
+use Rattle.backing.specs.declared.Memory.{Memory}
+use Rattle.backing.specs.declared.backup.Tally.{Tally}
+use Rattle.backing.specs.Backable.{count_bound, machine, ScanDone, Opens}
+use Rattle.backing.specs.Scanned.{problem_in, machine_of, Fitting, KeptIn, Same}
+use Rattle.std.proofs.Common.{rules}
 use Rattle.backing.specs.Turns.{turns}
 
 or_joined : (a b c d : Bool) → d ≡ (a || b) → (d || c) ≡ (a || (b || c))
@@ -26,124 +34,104 @@ or_nothing : (a : Bool) → (a || false) ≡ a
 or_nothing true = refl
 or_nothing false = refl
 
+same_on : (m m' m'' : Memory) → Same m m' → Same m' m'' → Same m m''
+same_on m m' m'' first then = search rules
+
 -- a backup done: the scan's result is stored, and the value is raised by the model's test
 module _ {f index values picks remembered : List ℕ} (s count : ℕ) where
   pub backup_done
-      : (e : ℕ) (moved : Bool) (l : List ℕ) {a : Found} {values' picks' entries' : List ℕ} {rose turned both moved' : Bool}
+      : (e : ℕ) (moved : Bool) (l : List ℕ) {a : Found} {values' picks' entries' : List ℕ} {rose turned moved' : Bool}
       → ScanDone f index s (machine values picks remembered [] count false) a picks' entries'
       → rose ≡ leb (get_or values s 0 + e) a.best → values' ≡ raise_on (leb (get_or values s 0 + e) a.best) values s a.best
-      → turned ≡ not (eqb a.pick (get_or picks s 0)) → both ≡ (rose || turned) → moved' ≡ (moved || both)
+      → turned ≡ not (eqb a.pick (get_or picks s 0)) → moved' ≡ (moved || (rose || turned))
       → machine values' picks' a.remembered l a.count moved'
       ≡ backup (problem_of f) e s (machine values picks remembered l count moved)
   unfolding backup settle
-  backup_done e moved l done raised stored turned either same =
-      rw (← done.same) (rw (stored, done.picks, same, either, raised, turned) refl)
+  backup_done e moved l done raised stored turned same =
+      rw (← done.same) (rw (stored, done.picks, same, raised, turned) refl)
 
-  -- the pick that stands there afterwards is the scan's
-  pub pick_left
-      : (t : Bool) {a : Found} {picks' entries' : List ℕ} {turned r : Bool} → s < length picks
-      → ScanDone f index s (machine values picks remembered [] count false) a picks' entries'
-      → turned ≡ not (eqb a.pick (get_or picks s 0)) → r ≡ (t || turned)
-      → r ≡ (t || not (eqb (get_or picks' s 0) (get_or picks s 0)))
-  pick_left t {a} l done turned e = rw (done.picks, get_or-set_same picks s a.pick 0 l) (rw turned at e)
-
--- the loop along a walk list: what is left of the backups, from the i-th on, gives w, and whether a pick changes in all
+-- the loop along a walk list, begun with a tally and tables: what is left of the backups, from the i-th on, gives the same as all, and so does
+-- whether a pick changes
 pub record BackLeft
-    (f index list : List ℕ) (n e : ℕ) (w : Machine) (t : Bool) (m : Machine) (entries : List ℕ) (turned : Bool) (i : ℕ) : Type 0 where
-  pub backable : Backable f index m.values m.picks m.remembered
-  pub kept : Kept f index m.picks m.remembered entries
-  pub listed : Listed f list n
-  pub left : backups (problem_of f) e (drop i (take n list)) m ≡ w
-  pub turning : (turned || turns (problem_of f) e (drop i (take n list)) m) ≡ t
-  pub room : w.evaluations < count_bound
-  pub within : i ≤ n
+    (terms : Terms) (list values : List ℕ) (mem : Memory) (t : Tally) (values' : List ℕ) (mem' : Memory) (t' : Tally) (i : ℕ) : Type 0 where
+  pub same : Same mem mem'
+  pub fitting : Fitting terms.problem values' mem'
+  pub left
+      : backups (problem_in terms.problem) terms.tolerance (drop i list) (machine_of values' mem' list t'.count t'.moved)
+      ≡ backups (problem_in terms.problem) terms.tolerance list (machine_of values mem list t.count t.moved)
+  pub turning
+      : (t'.turned || turns (problem_in terms.problem) terms.tolerance (drop i list) (machine_of values' mem' list t'.count t'.moved))
+      ≡ (t.turned || turns (problem_in terms.problem) terms.tolerance list (machine_of values mem list t.count t.moved))
 
-module _ {f index list : List ℕ} {n e : ℕ} {w : Machine} {t : Bool} {m : Machine} {entries : List ℕ} {turned : Bool} {i : ℕ}
-    (h : BackLeft f index list n e w t m entries turned i) where
-  L : List ℕ
-  L = take n list
+module _ {terms : Terms} {list values values' : List ℕ} {mem mem' : Memory} {t t' : Tally} {i : ℕ}
+    (h : BackLeft terms list values mem t values' mem' t' i) where
+  abbrev p : Problem
+  p = problem_in terms.problem
 
-  long : length L ≡ n
-  unfolding L
-  long = length-take-le n list h.listed.long
+  abbrev e : ℕ
+  e = terms.tolerance
 
-  at : i < n → get_or L i 0 ≡ get_or list i 0
-  unfolding L
-  at l = get_or-take n list i 0 l
+  abbrev m : Machine
+  m = machine_of values' mem' list t'.count t'.moved
 
-  rest : i < n → drop i L ≡ get_or list i 0 ∷ drop (i + 1) L
-  unfolding L
-  rest l = drop-cons L i 0 (omega (arith, long)) ∙ rw (at l, add-one) refl
+  abbrev whole : Machine
+  whole = backups p e list (machine_of values mem list t.count t.moved)
 
-  pub next_open : i < n → Open (problem_of f) (get_or list i 0)
-  unfolding L
-  next_open l = h.listed.opens _ (rw (at l) at (in_place L i (omega (arith, long))))
+  abbrev any_turned : Bool
+  any_turned = t.turned || turns p e list (machine_of values mem list t.count t.moved)
 
-  next_left : i < n → backups (problem_of f) e (drop (i + 1) L) (backup (problem_of f) e (get_or list i 0) m) ≡ w
-  unfolding L backups
-  next_left l = rw (rest l) at h.left
+  abbrev s : ℕ
+  s = get_or list i 0
 
-  -- the pick of the next one, and then those of the others
-  next_turning
-      : i < n
-      → (turned
-      || (not (eqb (get_or (backup (problem_of f) e (get_or list i 0) m).picks (get_or list i 0) 0) (get_or m.picks (get_or list i 0) 0))
-      || turns (problem_of f) e (drop (i + 1) L) (backup (problem_of f) e (get_or list i 0) m)))
-      ≡ t
-  unfolding L turns
-  next_turning l = rw (rest l) at h.turning
+  module _ (l : i < length list) where
+    rest : drop i list ≡ s ∷ drop (i + 1) list
+    rest = drop-cons list i 0 l ∙ rw add-one refl
 
-  -- what is counted after the next backup is at most what is counted in the end
-  pub next_room : i < n → (scan_of (problem_of f) (get_or list i 0) m).count < count_bound
-  unfolding backup settle L
-  next_room l =
-      omega (
-        arith,
-        h.room,
-        ap (λ (x : Machine). x.evaluations) (next_left l),
-        backups_count (problem_of f) e (drop (i + 1) L) (backup (problem_of f) e (get_or list i 0) m),
-      )
+    next_left : backups p e (drop (i + 1) list) (backup p e s m) ≡ whole
+    unfolding backups
+    next_left = rw rest at h.left
 
-  pub left_backed
-      : {m' : Machine} {entries' : List ℕ} {turned' : Bool} → i < n → m' ≡ backup (problem_of f) e (get_or list i 0) m
-      → turned' ≡ (turned || not (eqb (get_or m'.picks (get_or list i 0) 0) (get_or m.picks (get_or list i 0) 0)))
-      → Kept f index m'.picks m'.remembered entries' → BackLeft f index list n e w t m' entries' turned' (i + 1)
-  unfolding L
-  left_backed {m'} {entries'} {turned'} l same turn kept =
-      record {
-        backable =
-            record {
-              ready = h.backable.ready;
-              formed = h.backable.formed;
-              sound = rw same sound;
-            };
-        kept = kept;
-        listed = h.listed;
-        left = rw same (next_left l);
-        turning = or_joined turned _ _ turned' turn ∙ rw same (next_turning l);
-        room = h.room;
-        within = omega arith;
-      }
-    where
-      o : Open (problem_of f) (get_or list i 0)
-      o = next_open l
+    -- the pick of the next one, and then those of the others
+    turned_by : Machine → Bool
+    turned_by x = t'.turned || (not (eqb (get_or x.picks s 0) (get_or m.picks s 0)) || turns p e (drop (i + 1) list) x)
 
-      sound : Sound (problem_of f) (backup (problem_of f) e (get_or list i 0) m)
-      sound =
-          backup_sound (problem_of f) h.backable.formed (get_or list i 0) m o.state
-          h.backable.sound e o.no_goal
+    next_turning : turned_by (backup p e s m) ≡ any_turned
+    unfolding turns turned_by
+    next_turning = rw rest at h.turning
 
-  none_left : n ≤ i → drop i L ≡ []
-  unfolding L
-  none_left l = rw (same_end l) (drop-length L)
-    where
-      same_end : n ≤ i → i ≡ length L
-      same_end l = omega (arith, h.within, long)
+    -- what is counted after the next backup is at most what is counted in the end
+    pub next_room : whole.evaluations < count_bound → (scan_of p s m).count < count_bound
+    unfolding backup settle
+    next_room room =
+        omega (arith, room, ap (λ (x : Machine). x.evaluations) next_left, backups_count p e (drop (i + 1) list) (backup p e s m))
 
-  pub all_backed : n ≤ i → m ≡ w
-  unfolding L backups
-  all_backed l = rw (none_left l) at h.left
+    module _ (opens : Opens p list) where
+      pub next_open : Open p s
+      next_open = opens _ (in_place list i l)
 
-  pub all_turned : n ≤ i → turned ≡ t
-  unfolding L turns
-  all_turned l = sym (or_nothing turned) ∙ rw (none_left l) at h.turning
+      pub left_backed
+          : {values'' : List ℕ} {mem'' : Memory} {t'' : Tally} → Same mem' mem''
+          → machine_of values'' mem'' list t''.count t''.moved ≡ backup p e s m
+          → t''.turned ≡ (t'.turned || not (eqb (get_or mem''.picks.now s 0) (get_or mem'.picks.now s 0))) → KeptIn terms.problem mem''
+          → BackLeft terms list values mem t values'' mem'' t'' (i + 1)
+      unfolding turned_by
+      left_backed {values''} {mem''} {t''} same is turn kept =
+          record {
+            same = same_on mem mem' mem'' h.same same;
+            fitting = record { sound = sound; kept = kept };
+            left = rw is next_left;
+            turning = or_joined t'.turned _ _ t''.turned turn ∙ subst (λ x. turned_by x ≡ any_turned) (sym is) next_turning;
+          }
+        where
+          sound : Sound p (machine_of values'' mem'' list t''.count t''.moved)
+          sound =
+              subst (Sound p) (sym is)
+              (backup_sound p terms.problem.formed s m next_open.state h.fitting.sound e next_open.no_goal)
+
+  pub all_backed : length list ≤ i → m ≡ whole
+  unfolding backups
+  all_backed l = rw (drop_of_length-le list l) at h.left
+
+  pub all_turned : length list ≤ i → t'.turned ≡ any_turned
+  unfolding turns
+  all_turned l = sym (or_nothing t'.turned) ∙ rw (drop_of_length-le list l) at h.turning

@@ -11,8 +11,8 @@ use lib.Dec.{leb, eqb}
 use lib.ListN.{get_or, set, length, length-set}
 use lib.Seq.{set-get_or, get_or-set_same, get_or-set_other}
 use borrow.Author.Tests.{eq-eqb, ne_eqb, eqb-true, leb-true}
-use Rattle.model.specs.Limits.{give_up}
-use Rattle.model.specs.Problem.{Problem, give_up_cost, end_row, own_row}
+use Rattle.model.specs.Limits.{give_up, value_bound}
+use Rattle.model.specs.Problem.{Problem, end_row, own_row}
 use Rattle.model.specs.Sections.{problem_of}
 use Rattle.model.specs.Value.{by_state}
 use Rattle.model.specs.Rounds.{Found, Machine, taken_if, traverse, consider, pick_of, scan_of}
@@ -29,26 +29,40 @@ use Rattle.guarantee.specs.Rests.{rest_scanned, short_scan, rest_kept, never_fal
 use Rattle.reading.specs.Entries.{code_in, rest_in, row_code, code_on, pick_code, Coded, code_some, row_coded}
 use Rattle.reading.specs.RowParts.{rows_begin, rows_end, own_at_lem}
 use Rattle.reading.specs.Tests.{own_at}
-use Rattle.backing.specs.Backable.{count_bound, resting, Going, machine, Scannable, Coding, Apart, Backable, Kept, ScanDone}
-use Rattle.backing.specs.Backable.{rest_taken_under, rest_others_under}
+use Rattle.reading.specs.declared.problem.Problem
+use Rattle.backing.specs.declared.Terms.{Terms}
+use Rattle.backing.specs.declared.Memory.{Memory}
+use Rattle.backing.specs.Backable.{count_bound, resting, Going, Coding, Apart, ScanDone}
+use Rattle.backing.specs.Backable.{value_under, rest_taken_under, rest_others_under}
+use Rattle.backing.specs.Scanned.{machine_of, Fitting}
 
 -- in sound tables every row value fits
-pub backable_scannable
-    : {f index values picks remembered : List ℕ} → Backable f index values picks remembered → Scannable f index values remembered
-backable_scannable {f} {index} {values} {picks} {remembered} h =
-    record {
-      ready = h.ready;
-      values_long = h.sound.values_length;
-      remembered_long = h.sound.remembered_length;
-      fits = evaluation_fits (problem_of f) h.formed (machine values picks remembered [] 0 false) h.sound;
-    }
+pub sound_fits
+    : (p : Problem.Problem) {values : List ℕ} {mem : Memory} → Fitting p values mem
+    → (r : ℕ) → r < (problem_of p.file.now).rows → value_under p.file.now values r < value_bound
+sound_fits p {values} {mem} h = evaluation_fits (problem_of p.file.now) p.formed (machine_of values mem [] 0 false) h.sound
 
 -- a scan goes on from giving up
 pub given_going : (give : ℕ) → Going give (give + 1) give_up
 given_going give = sym (threshold_giving_up (pick_of give give_up) refl)
 
-module _ {f index values picks remembered entries : List ℕ} (h : Backable f index values picks remembered)
-    (k : Kept f index picks remembered entries) (s : ℕ) (state : s < (problem_of f).states) (count : ℕ) where
+module _ (t : Terms) {values : List ℕ} {mem : Memory} (h : Fitting t.problem values mem) (s : ℕ)
+    (state : s < (problem_of t.problem.file.now).states) (count : ℕ) where
+  abbrev f : List ℕ
+  f = t.problem.file.now
+
+  abbrev index : List ℕ
+  index = t.problem.index.now
+
+  abbrev picks : List ℕ
+  picks = mem.picks.now
+
+  abbrev remembered : List ℕ
+  remembered = mem.remembered.now
+
+  abbrev entries : List ℕ
+  entries = mem.entries.now
+
   abbrev p : Problem
   p = problem_of f
 
@@ -59,25 +73,25 @@ module _ {f index values picks remembered entries : List ℕ} (h : Backable f in
   prev = get_or picks s 0
 
   abbrev m : Machine
-  m = machine values picks remembered [] count false
+  m = machine_of values mem [] count false
 
   sound : Sound p m
   sound = h.sound
 
   -- the code of s is that of its pick, so that it is 0 where the pick is no own row
   code_is : (b : Bool) → own_at index s prev ≡ b → code_in entries s ≡ code_on b index prev
-  code_is b e = k.entered.codes s state ∙ ap (λ c. code_on c index prev) e
+  code_is b e = h.kept.entered.codes s state ∙ ap (λ c. code_on c index prev) e
 
   own_is : (b : Bool) → own_at index s prev ≡ b → own_row p s prev ≡ b
-  own_is b e = sym (own_at_lem f index h.ready s state prev) ∙ e
+  own_is b e = sym (own_at_lem f index t.problem.ready s state prev) ∙ e
 
   own_code : not (eqb (code_in entries s) 0) ≡ own_row p s prev
   own_code = go (own_at index s prev) refl
     where
       go : (b : Bool) → own_at index s prev ≡ b → not (eqb (code_in entries s) 0) ≡ own_row p s prev
       go true e =
-          let row = own_row_lem p h.formed s prev state (own_is true e) in
-          let some : code_in entries s ≡ 0 → ⊥ = λ z. code_some h.ready.indexed prev row (sym (code_is true e) ∙ z) in
+          let row = own_row_lem p t.problem.formed s prev state (own_is true e) in
+          let some : code_in entries s ≡ 0 → ⊥ = λ z. code_some t.problem.ready.indexed prev row (sym (code_is true e) ∙ z) in
           rw (ne_eqb (code_in entries s) 0 some) (sym (own_is true e))
       go false e = rw (eq-eqb (code_in entries s) 0 (code_is false e)) (sym (own_is false e))
 
@@ -85,24 +99,24 @@ module _ {f index values picks remembered entries : List ℕ} (h : Backable f in
   entry_coding some = go (own_at index s prev) refl
     where
       go : (b : Bool) → own_at index s prev ≡ b → (prev < p.rows) × (code_in entries s ≡ row_code index prev)
-      go true e = (own_row_lem p h.formed s prev state (own_is true e), code_is true e)
+      go true e = (own_row_lem p t.problem.formed s prev state (own_is true e), code_is true e)
       go false e = absurd (some (code_is false e))
 
   pub entry_there : 2 * s + 1 < length entries
-  entry_there = omega (arith, k.entered.long)
+  entry_there = omega (arith, h.kept.entered.long)
 
   -- the rows of the state, and the pick before among them or beyond them
   first_is : get_or index s 0 ≡ p.first_row s
-  first_is = rows_begin f index h.ready s state
+  first_is = rows_begin f index t.problem.ready s state
 
   end_is : get_or index (s + 1) 0 ≡ end_row p s
-  end_is = rows_end f index h.ready s state
+  end_is = rows_end f index t.problem.ready s state
 
   pub rows_ordered : get_or index s 0 ≤ get_or index (s + 1) 0
   rows_ordered = omega (arith, first_is, end_is)
 
   pub rows_inside : get_or index (s + 1) 0 ≤ p.rows
-  rows_inside = omega (arith, end_is, h.ready.indexed.within.rows_within_lem s state)
+  rows_inside = omega (arith, end_is, t.problem.ready.indexed.within.rows_within_lem s state)
 
   pub pick_apart : Apart (get_or index s 0) (get_or index (s + 1) 0) prev
   pick_apart = go (sound.picked s state)
@@ -111,8 +125,8 @@ module _ {f index values picks remembered entries : List ℕ} (h : Backable f in
       beyond l = record { low = omega (arith, rows_ordered, rows_inside); off_end = λ e. omega (arith, rows_inside) }
 
       go : Allowed p s prev → Apart (get_or index s 0) (get_or index (s + 1) 0) prev
-      go (holds_none e) = beyond (omega (arith, h.formed.rows_high))
-      go (holds_giving_up e) = beyond (omega (arith, h.formed.rows_high))
+      go (holds_none e) = beyond (omega (arith, t.problem.formed.rows_high))
+      go (holds_giving_up e) = beyond (omega (arith, t.problem.formed.rows_high))
       go (holds_own own) =
           record {
             low = omega (arith, first_is, own_low p s prev own);
@@ -128,13 +142,16 @@ module _ {f index values picks remembered entries : List ℕ} (h : Backable f in
   first_taken = taken_if (consider_rest p v) (own_row p s prev) prev (rest_from p count remembered)
 
   pub taken_first
-      : {give code : ℕ} {z : Resting} → give ≡ give_up_cost p → code ≡ code_in entries s
-      → z ≡ rest_taken_under (not (eqb code 0)) f values prev (resting give give_up count remembered give) → z ≡ first_taken
-  taken_first cost is e = rw (cost, is, own_code) at e
+      : {z : Resting} → z ≡ rest_taken_under (not (eqb (code_in entries s) 0)) f values prev (resting t.give give_up count remembered t.give)
+      → z ≡ first_taken
+  taken_first e =
+      e
+      ∙ ap (λ x. rest_taken_under (not (eqb (code_in entries s) 0)) f values prev (resting x give_up count remembered x)) t.give_is
+      ∙ ap (λ b. taken_if (consider_rest p v) b prev (rest_from p count remembered)) own_code
 
   -- what a scan leaves in the memories is no less than before
   risen : {a : Found} → a ≡ scan_of p s m → (r : ℕ) → get_or remembered r 0 ≤ get_or a.remembered r 0
-  risen same r = rw same (never_falls p s m h.formed state sound r)
+  risen same r = rw same (never_falls p s m t.problem.formed state sound r)
 
   -- where the pick before is picked again, and best is at most rest, the scan is done, and all entries stay
   pub scan_settled
@@ -153,13 +170,13 @@ module _ {f index values picks remembered entries : List ℕ} (h : Backable f in
       done : z.found.pick ≡ prev → z.found.best ≤ rest_in entries s → ScanDone f index s m z.found picks entries
       done stays least =
           let whole =
-          short_scan h.formed state v count (k.rests s state) (ap (λ (a : Found). a.pick) (sym taken) ∙ stays)
+          short_scan t.problem.formed state v count (h.kept.rests s state) (ap (λ (a : Found). a.pick) (sym taken) ∙ stays)
           (rw (← ap (λ (a : Found). a.best) taken) least) in
           let same : z.found ≡ scan_of p s m = taken ∙ sym whole in
           record {
             same = same;
             picks = sym (ap (set picks s) stays ∙ set-get_or picks s 0);
-            kept = record { entered = k.entered; rests = λ j l. rest_kept (k.rests j l) (risen same) };
+            kept = record { entered = h.kept.entered; rests = λ j l. rest_kept (h.kept.rests j l) (risen same) };
           }
 
   -- otherwise the others follow, and the scan is done
@@ -177,16 +194,16 @@ module _ {f index values picks remembered entries : List ℕ} (h : Backable f in
 
     serves : Rested p s y
     serves =
-        subst (Rested p s) (sym whole) (rest_scanned h.formed state v prev count remembered sound.remembered_length)
+        subst (Rested p s) (sym whole) (rest_scanned t.problem.formed state v prev count remembered sound.remembered_length)
 
     landed : OwnPick p s y.found.pick
     landed =
-        rw (ap (λ (a : Found). a.pick) same_scan ∙ ap (λ c. c.pick) (scan_law p h.formed s m state sound).ends)
+        rw (ap (λ (a : Found). a.pick) same_scan ∙ ap (λ c. c.pick) (scan_law p t.problem.formed s m state sound).ends)
         (landed_pick (choice_landed p v s prev))
 
     pub entering : (y.found.pick ≡ give_up) ⊎ Coded index y.found.pick
     entering =
-        ⊎_elim inl (λ own. inr (row_coded h.ready.indexed y.found.pick (own_row_lem p h.formed s y.found.pick state own))) landed
+        ⊎_elim inl (λ own. inr (row_coded t.problem.ready.indexed y.found.pick (own_row_lem p t.problem.formed s y.found.pick state own))) landed
 
     -- the code that is entered is that of the pick
     code_entered : code_on (not (eqb y.found.pick give_up)) index y.found.pick ≡ pick_code index s y.found.pick
@@ -197,12 +214,12 @@ module _ {f index values picks remembered entries : List ℕ} (h : Backable f in
 
         gives : pick ≡ give_up → code_on (not (eqb pick give_up)) index pick ≡ pick_code index s pick
         gives e =
-            rw (eq-eqb pick give_up e, own_at_lem f index h.ready s state pick, ap (own_row p s) e, give_up-not_own p h.formed s state) refl
+            rw (eq-eqb pick give_up e, own_at_lem f index t.problem.ready s state pick, ap (own_row p s) e, give_up-not_own p t.problem.formed s state) refl
 
         owns : own_row p s pick ≡ true → code_on (not (eqb pick give_up)) index pick ≡ pick_code index s pick
         owns own =
-            let few : pick < give_up = omega (arith, row_no_mark p h.formed s pick state own) in
-            rw (ne_eqb pick give_up (λ e. omega arith), own_at_lem f index h.ready s state pick, own) refl
+            let few : pick < give_up = omega (arith, row_no_mark p t.problem.formed s pick state own) in
+            rw (ne_eqb pick give_up (λ e. omega arith), own_at_lem f index t.problem.ready s state pick, own) refl
 
     pub scan_entered
         : {entries' : List ℕ}
@@ -218,7 +235,7 @@ module _ {f index values picks remembered entries : List ℕ} (h : Backable f in
                     record {
                       long =
                           rw stored
-                          (omega (arith, k.entered.long, length-set (set entries (2 * s) c) (2 * s + 1) x, length-set entries (2 * s) c));
+                          (omega (arith, h.kept.entered.long, length-set (set entries (2 * s) c) (2 * s + 1) x, length-set entries (2 * s) c));
                       codes = λ j l. code_at j l (ℕ_discrete j s);
                     };
                 rests = λ j l. rest_at j l (ℕ_discrete j s);
@@ -244,7 +261,7 @@ module _ {f index values picks remembered entries : List ℕ} (h : Backable f in
             code_entered
         code_at j l (no off) =
             rw (stays j off, stored, pair_other entries (2 * s) c x (2 * j) (λ e. off (omega arith)) (λ e. omega arith))
-            (k.entered.codes j l)
+            (h.kept.entered.codes j l)
 
         rest_at : (j : ℕ) → j < p.states → Dec (j ≡ s)
             → RestFits p j (get_or (set picks s y.found.pick) j 0) y.found.remembered (rest_in entries' j)
@@ -253,7 +270,7 @@ module _ {f index values picks remembered entries : List ℕ} (h : Backable f in
             serves
         rest_at j l (no off) =
             rw (stays j off, stored, pair_other entries (2 * s) c x (2 * j + 1) (λ e. omega arith) (λ e. off (omega arith)))
-            (rest_kept (k.rests j l) (risen same_scan))
+            (rest_kept (h.kept.rests j l) (risen same_scan))
 
   -- there is room to count the others
   pub others_room

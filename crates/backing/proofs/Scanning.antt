@@ -23,6 +23,7 @@ use Rattle.reading.specs.Ready.{RowReady}
 use Rattle.reading.specs.RowParts.{part_from, part_to}
 use Rattle.reading.specs.Tests.{rows_base}
 use Rattle.reading.proofs.RowValues.{row_part_there, row_value_is}
+use Rattle.backing.specs.declared.scan.Rows.{Rows}
 use Rattle.backing.specs.Backable.{count_bound, Going, Scannable, Rowed, Apart, other_on, stop_on}
 use Rattle.backing.specs.Backable.{rest_under, rest_taken_under, rest_others_under}
 
@@ -63,6 +64,12 @@ module _ (p : Problem) (v : ℕ → ℕ) (r : ℕ) (a : Found) (x : ℕ) where
   row_evaluated {q} {y} {b} long not_skipped value same low =
       rw (not_skipped, ← value, evaluate_stores (beats q a.best a.pick) q r a, get_or-set_same a.remembered r q 0 long, same, low) refl
 
+-- the rows of a problem under a table are what evaluating rows stands on, as long as what remembers them is long enough
+pub scannable_of
+    : (s : Rows) {remembered : List ℕ} → (problem_of s.problem.file.now).rows ≤ length remembered
+    → Scannable s.problem.file.now s.problem.index.now s.values.now remembered
+scannable_of s long = record { ready = s.problem.ready; values_long = s.long; remembered_long = long; fits = s.fits }
+
 -- what evaluating row r stands on, as the index has the row, and by its code
 module _ {f index values remembered : List ℕ} (h : Scannable f index values remembered) {r from to cost total : ℕ}
     (row : r < (problem_of f).rows) (ticks : cost ≡ get_or index (rows_base + 2 * r + 1) 0) (W : total ≡ (problem_of f).total) where
@@ -96,28 +103,12 @@ module _ (f values : List ℕ) (prev code : ℕ) (z : Resting) where
   unfolding taken_if
   pick_taken n e = rw (ne_eqb code 0 n) e
 
--- what evaluating rows stands on does not hang on what the rows remember
-pub still_scannable
-    : {f index values l l' : List ℕ} → length l' ≡ length l → Scannable f index values l → Scannable f index values l'
-still_scannable e h =
-    record { ready = h.ready; values_long = h.values_long; remembered_long = omega (arith, e, h.remembered_long); fits = h.fits }
-
--- the loop over the others in row order, k of them being done: what is left of the scan, from row r up to `end`, gives w
-pub record ScanLeft (f index values : List ℕ) (prev end : ℕ) (w z : Resting) (below k : ℕ) : Type 0 where
-  pub scannable : Scannable f index values z.found.remembered
-  pub rows : end ≤ (problem_of f).rows
-  pub off_end : prev ≡ end → ⊥
-  pub within : k ≤ stop_on (ltb prev end) end
-  pub left : rest_others_under f values prev (other_on (leb prev k) k) (end - other_on (leb prev k) k) z ≡ w
-  pub room : w.found.count < count_bound
-  pub going : Going z.found.best below z.found.pick
-
 -- the position at which k others are done: that of the row picked before is passed over
-abbrev place : ℕ → ℕ → ℕ
+abbrev pub place : ℕ → ℕ → ℕ
 place prev k = other_on (leb prev k) k
 
 module _ (f values : List ℕ) (prev end : ℕ) (z : Resting) where
-  abbrev from : ℕ → Resting → Resting
+  abbrev pub from : ℕ → Resting → Resting
   from r y = rest_others_under f values prev r (end - r) y
 
   one_row : (r : ℕ) → r < end → from r z ≡ from (r + 1) (rest_taken_under (not (eqb r prev)) f values r z)
@@ -173,76 +164,49 @@ module _ {prev end k : ℕ} (off : prev ≡ end → ⊥) (more : k < stop_on (lt
       go false e =
           at_place f values prev end z (k + 1) (omega (arith, (stop_near (ltb prev end) refl more).0)) off (omega (arith, leb-false prev k e))
 
-  stop_more : (b : Bool) → ltb prev end ≡ b → k < stop_on b end → k + 1 ≤ stop_on b end
-  stop_more b e l = omega arith
+-- what is left of the scan when k others are done, from the place of k up to `end`
+abbrev pub left_from : List ℕ → List ℕ → ℕ → ℕ → ℕ → Resting → Resting
+left_from f values prev end k z = from f values prev end z (place prev k) z
 
-pub left_starts
-    : {f index values : List ℕ} {prev first end below : ℕ} {z : Resting} → Scannable f index values z.found.remembered
-    → first ≤ end → end ≤ (problem_of f).rows → Apart first end prev
-    → (rest_others_under f values prev first (end - first) z).found.count < count_bound → Going z.found.best below z.found.pick
-    → ScanLeft f index values prev end (rest_others_under f values prev first (end - first) z) z below first
-left_starts {f} {index} {values} {prev} {first} {end} {below} {z} h order rows apart room going =
-    record {
-      scannable = h;
-      rows = rows;
-      off_end = apart.off_end;
-      within = go (ltb prev end) refl;
-      left = sym (at_place f values prev end z first order apart.off_end apart.low);
-      room = room;
-      going = going;
-    }
-  where
-    go : (b : Bool) → ltb prev end ≡ b → first ≤ stop_on b end
-    go true e = omega (arith, ltb-true prev end e, apart.low)
-    go false e = order
+module _ (f values : List ℕ) {first end prev : ℕ} (apart : Apart first end prev) (z : Resting) where
+  pub left_starts : first ≤ end → left_from f values prev end first z ≡ from f values prev end z first z
+  left_starts order = sym (at_place f values prev end z first order apart.off_end apart.low)
 
-module _ {f index values : List ℕ} {prev end : ℕ} {w z : Resting} {below k : ℕ} (h : ScanLeft f index values prev end w z below k) where
-  pub left_row : k < stop_on (ltb prev end) end → place prev k < (problem_of f).rows
-  left_row more = omega (arith, h.rows, other_inside h.off_end more)
+  module _ {stop : ℕ} (stops : stop ≡ stop_on (ltb prev end) end) (k : ℕ) (w : Resting) (left : left_from f values prev end k z ≡ w) where
+    -- what is counted so far is at most what is counted in the end
+    pub left_room : w.found.count < count_bound → z.found.count < count_bound
+    left_room room =
+        let r = place prev k in
+        omega (
+          arith,
+          room,
+          others_count (problem_of f) (by_state values) prev r (end - r) z.found,
+          ap (λ (y : Found). y.count) (sym (others_found (problem_of f) (by_state values) prev r (end - r) z) ∙ ap (λ (y : Resting). y.found) left),
+        )
 
-  pub left_few : k < stop_on (ltb prev end) end → k < max_rows
-  left_few more =
-      omega (arith, h.rows, (stop_near h.off_end more (ltb prev end) refl more).0, h.scannable.ready.indexed.within.rows_high)
+    module _ (more : k < stop) {r : ℕ} (at : r ≡ place prev k) where
+      on : k < stop_on (ltb prev end) end
+      on = rw (← stops) more
 
-  -- what is counted so far is at most what is counted in the end
-  pub left_room : z.found.count < count_bound
-  left_room =
-      let r = place prev k in
-      omega (
-        arith,
-        h.room,
-        others_count (problem_of f) (by_state values) prev r (end - r) z.found,
-        ap (λ (y : Found). y.count) (sym (others_found (problem_of f) (by_state values) prev r (end - r) z) ∙ ap (λ (y : Resting). y.found) h.left),
-      )
+      pub left_row : r < end
+      left_row = rw at (other_inside apart.off_end on)
 
-  pub left_taken
-      : {y : Resting} {below' r : ℕ} → k < stop_on (ltb prev end) end → r ≡ place prev k → y ≡ rest_under f values r z
-      → Going y.found.best below' y.found.pick → length y.found.remembered ≡ length z.found.remembered
-      → ScanLeft f index values prev end w y below' (k + 1)
-  left_taken {y} more at same going long =
-      record {
-        scannable = still_scannable long h.scannable;
-        rows = h.rows;
-        off_end = h.off_end;
-        within = stop_more h.off_end more (ltb prev end) refl more;
-        left =
-            sym (place_on h.off_end more f values y)
-            ∙ ap (λ x. rest_others_under f values prev (place prev k + 1) (end - (place prev k + 1)) x) (same ∙ ap (λ i. rest_under f values i z) at)
-            ∙ sym (row_taken f values prev end z (place prev k) (other_inside h.off_end more) (other_else h.off_end more))
-            ∙ h.left;
-        room = h.room;
-        going = going;
-      }
+      pub left_taken : {y : Resting} → y ≡ rest_under f values r z → left_from f values prev end (k + 1) y ≡ w
+      left_taken {y} same =
+          sym (place_on apart.off_end on f values y)
+          ∙ ap (λ x. from f values prev end x (place prev k + 1) x) (same ∙ ap (λ i. rest_under f values i z) at)
+          ∙ sym (row_taken f values prev end z (place prev k) (other_inside apart.off_end on) (other_else apart.off_end on))
+          ∙ left
 
-  pub left_done : stop_on (ltb prev end) end ≤ k → z ≡ w
-  unfolding others_from
-  left_done l =
-      let over : end ≤ place prev k = go (ltb prev end) refl (leb prev k) refl l in
-      let none : end - place prev k ≡ 0 = omega arith in
-      rw none at h.left
-    where
-      go : (b : Bool) → ltb prev end ≡ b → (c : Bool) → leb prev k ≡ c → stop_on b end ≤ k → end ≤ other_on c k
-      go true e true e' l = omega arith
-      go true e false e' l = omega (arith, ltb-true prev end e, leb-false prev k e')
-      go false e true e' l = omega arith
-      go false e false e' l = l
+    pub left_done : stop ≤ k → z ≡ w
+    unfolding others_from
+    left_done l =
+        let over : end ≤ place prev k = go (ltb prev end) refl (leb prev k) refl (rw (← stops) l) in
+        let none : end - place prev k ≡ 0 = omega arith in
+        rw none at left
+      where
+        go : (b : Bool) → ltb prev end ≡ b → (c : Bool) → leb prev k ≡ c → stop_on b end ≤ k → end ≤ other_on c k
+        go true e true e' l = omega arith
+        go true e false e' l = omega (arith, ltb-true prev end e, leb-false prev k e')
+        go false e true e' l = omega arith
+        go false e false e' l = l

@@ -1,22 +1,19 @@
 -- What a scan and a backup stand on, and how what the code holds is read as the model's: a scan so far, the machine.
 -- One record for what each is asked.
-use Rattle.std.specs.Prelude.{ℕ, ◌+◌, ◌-◌, ◌/◌, ◌≤◌, ◌<◌, ◌≡◌, Bool, true, false, List, length, get_or, set, take}
+use Rattle.std.specs.Prelude.{ℕ, ◌+◌, ◌-◌, ◌/◌, ◌≤◌, ◌<◌, ◌≡◌, Bool, true, false, List, length, get_or, set}
 use Rattle.model.specs.Limits.{value_bound, max_rows, weight_totals}
-use Rattle.model.specs.Problem.{Problem, give_up_cost}
+use Rattle.model.specs.Problem.{Problem}
 use Rattle.model.specs.Search.{one_of}
 use Rattle.model.specs.Sections.{problem_of}
 use Rattle.model.specs.Value.{weighted_sum, row_value, by_state}
 use Rattle.model.specs.Walk.{In}
 use Rattle.model.specs.Rounds.{taken_if, others_from, Found, Machine, pick_of, scan_of}
-use Rattle.guarantee.specs.WellFormed.{WellFormed}
 use Rattle.guarantee.specs.Choosing.{threshold}
-use Rattle.guarantee.specs.Sound.{SoundTables}
 use Rattle.guarantee.specs.Backups.{Open}
 use Rattle.guarantee.specs.Rests.{Resting, consider_rest, RestFits}
 use Rattle.reading.specs.Entries.{row_code, rest_in, Entered}
 use Rattle.reading.specs.Ready.{Ready, PartThere}
 use Rattle.reading.specs.Tests.{outcomes_between}
-use Rattle.backing.specs.declared.Terms.{Terms}
 
 -- a count of evaluations below this has room for one more in 64 bits: it is their largest number
 abbrev pub count_bound : ℕ
@@ -96,11 +93,6 @@ pub record Apart (first end prev : ℕ) : Type 0 where
   pub low : first ≤ prev
   pub off_end : prev ≡ end → ⊥
 
--- the numbers of a run that its backups go by
-pub record Termed (p : Problem) (t : Terms) : Type 0 where
-  pub give : t.give ≡ give_up_cost p
-  pub total : t.total ≡ p.total
-
 -- the entries of the states fit: each code is that of the pick, and each rest serves
 pub record Kept (f index picks remembered entries : List ℕ) : Type 0 where
   pub entered : Entered f index picks entries
@@ -112,13 +104,6 @@ pub record ScanDone (f index : List ℕ) (s : ℕ) (m : Machine) (a : Found) (pi
   pub picks : picks' ≡ set m.picks s a.pick
   pub kept : Kept f index picks' a.remembered entries'
 
--- what backing up stands on
-pub record Backable (f index values picks remembered : List ℕ) : Type 0 where
-  pub ready : Ready f index
-  pub formed : WellFormed (problem_of f)
-  pub sound : SoundTables (problem_of f) values picks remembered
-
--- the first n entries of a walk list are states that are no goals
-pub record Listed (f list : List ℕ) (n : ℕ) : Type 0 where
-  pub long : n ≤ length list
-  pub opens : (s : ℕ) → In s (take n list) → Open (problem_of f) s
+-- the states of a list are no goals
+abbrev pub Opens : Problem → List ℕ → Type 0
+Opens p list = (s : ℕ) → In s list → Open p s

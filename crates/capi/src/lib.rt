@@ -3,8 +3,8 @@
 
 pub mod shift;
 
-ghost use Rattle.std.specs.Prelude.{◌≡◌, [], ◌∷◌, ◌≤◌, length};
-ghost use Rattle.model.specs.Answers.{verdict_carries, audited_carries};
+ghost use Rattle.std.specs.Prelude.{◌≡◌, [], ◌∷◌, ◌≤◌, length, pos};
+ghost use Rattle.model.specs.Answers.{number_of, verdict_carries, audited_carries};
 ghost use Rattle.model.specs.Audit.{audit};
 ghost use Rattle.model.specs.Buffers.{copied};
 ghost use Rattle.model.specs.Interface.{Hands, HandsSolution, handing, plain_numbers, signed_numbers, nothing, writing_handed};
@@ -13,17 +13,24 @@ ghost use Rattle.model.specs.Questions.{file_questions};
 ghost use Rattle.model.specs.SetForm.{exchange};
 ghost use Rattle.model.specs.Solution.{tables};
 ghost use Rattle.model.specs.declared.Kind.TheVariants.{Plain, Finishing};
+ghost use Rattle.solving.specs.Lent.{tables_in, Same};
 
-use model::{AuditAnswer, Counts, FileAnswer, Kind, SolveAnswer, WriteAnswer};
+use model::{AuditRefusal, Counts, Ended, Kind, Refusal};
+use solving::Tables;
 
 // Writes three numbers to the front of a table that has room for them.
-fn put3(answer: &mut [u64], a: u64, b: u64, c: u64)
+fn put3<T: Copy>(answer: &mut [T], numbers: [T; 3])
     requires { 3 ≤ length answer.old }
-    ensures { answer.new ≡ copied (a ∷ b ∷ c ∷ []) answer.old }
+    ensures { answer.new ≡ copied numbers answer.old }
 {
-    answer[0] = a;
-    answer[1] = b;
-    answer[2] = c;
+    answer[..3].copy_from_slice(&numbers);
+}
+
+// The numbers of a refusal: its question, its place, 0.
+fn refused(no: Refusal) -> [u64; 3]
+    ensures { result ≡ number_of no.question ∷ no.place ∷ 0 ∷ [] }
+{
+    [no.question.number() as u64, no.place as u64, 0]
 }
 
 // 3 passed, with answer 0, 0, 0; 0 refused, with answer question, place, 0; 4 where `answer` has fewer than 3 entries, and then
@@ -37,14 +44,13 @@ pub extern "C" fn cuulipso_check(file: &[u8], answer: &mut [u64]) -> u8
     if answer.len() < 3 {
         return 4;
     }
-    let said = checking::questions::check(file);
-    match said {
-        FileAnswer::Passed => {
-            put3(answer, 0, 0, 0);
+    match checking::questions::check(file) {
+        Ok(()) => {
+            put3(answer, [0, 0, 0]);
             3
         }
-        FileAnswer::Refused { question, place } => {
-            put3(answer, question as u64, place as u64, 0);
+        Err(no) => {
+            put3(answer, refused(no));
             0
         }
     }
@@ -54,11 +60,8 @@ pub extern "C" fn cuulipso_check(file: &[u8], answer: &mut [u64]) -> u8
 fn copy_front(from: &[u8], to: &mut [u8])
     ensures { to.new ≡ copied from.now to.old }
 {
-    let mut i = 0;
-    while i < from.len() && i < to.len() {
-        to[i] = from[i];
-        i += 1;
-    }
+    let n = from.len().min(to.len());
+    to[..n].copy_from_slice(&from[..n]);
 }
 
 // The length of the stretch of the state's rows; its bytes stand at the front of `out` as far as they fit, the rest of `out` stays.
@@ -72,18 +75,11 @@ pub extern "C" fn cuulipso_rows(file: &[u8], state: u64, out: &mut [u8]) -> u64
     rows.len() as u64
 }
 
-// Writes what a run counted.
-fn put_counts(answer: &mut [u64], counts: Counts)
-    requires { 3 ≤ length answer.old }
-    ensures { answer.new
-        ≡ copied (counts.rounds ∷ counts.evaluations ∷ counts.least ∷ []) answer.old }
+// What a run counted.
+fn counted(counts: Counts) -> [u64; 3]
+    ensures { result ≡ counts.rounds ∷ counts.evaluations ∷ counts.least ∷ [] }
 {
-    put3(
-        answer,
-        counts.rounds,
-        counts.evaluations,
-        counts.least as u64,
-    );
+    [counts.rounds, counts.evaluations, counts.least as u64]
 }
 
 // Solves a file by a run of some kind, and hands over what it answers.
@@ -91,33 +87,27 @@ fn hand_over(
     kind: Kind,
     file: &[u8],
     budget: u64,
-    values: &mut [u32],
-    picks: &mut [u16],
-    remembered: &mut [u32],
-    walk: &mut [u16],
+    tables: &mut Tables<'_>,
     answer: &mut [u64],
 ) -> u8
-    ensures { HandsSolution
-        kind file.now budget
-        (tables values.old picks.old remembered.old walk.old)
-        (tables values.new picks.new remembered.new walk.new)
-        answer.old answer.new result }
+    ensures same { Same tables.old tables.new }
+    ensures hands { HandsSolution
+        kind file.now budget (tables_in tables.old) (tables_in tables.new) answer.old answer.new result }
 {
     if answer.len() < 3 {
         return 4;
     }
-    let said = solving::solve::solve(kind, file, budget, values, picks, remembered, walk);
-    match said {
-        SolveAnswer::Solved { counts } => {
-            put_counts(answer, counts);
+    match solving::solve::solve(kind, file, budget, tables) {
+        Ok(Ended::Solved(counts)) => {
+            put3(answer, counted(counts));
             1
         }
-        SolveAnswer::Spent { counts } => {
-            put_counts(answer, counts);
+        Ok(Ended::Spent(counts)) => {
+            put3(answer, counted(counts));
             2
         }
-        SolveAnswer::Refused { question, place } => {
-            put3(answer, question as u64, place as u64, 0);
+        Err(refusal) => {
+            put3(answer, refused(refusal));
             0
         }
     }
@@ -141,16 +131,13 @@ pub extern "C" fn cuulipso_solve(
         (tables values.new picks.new remembered.new walk.new)
         answer.old answer.new result }
 {
-    hand_over(
-        Kind::Plain,
-        file,
-        budget,
+    let mut tables = Tables {
         values,
         picks,
         remembered,
         walk,
-        answer,
-    )
+    };
+    hand_over(Kind::Plain, file, budget, &mut tables, answer)
 }
 
 // The same of a finishing run (E8): one budget over both of its parts.
@@ -170,26 +157,20 @@ pub extern "C" fn cuulipso_finish(
         (tables values.new picks.new remembered.new walk.new)
         answer.old answer.new result }
 {
-    hand_over(
-        Kind::Finishing,
-        file,
-        budget,
+    let mut tables = Tables {
         values,
         picks,
         remembered,
         walk,
-        answer,
-    )
+    };
+    hand_over(Kind::Finishing, file, budget, &mut tables, answer)
 }
 
-// Writes three signed numbers to the front of a table that has room for them.
-fn put3_signed(answer: &mut [i64], a: i64, b: i64, c: i64)
-    requires { 3 ≤ length answer.old }
-    ensures { answer.new ≡ copied (a ∷ b ∷ c ∷ []) answer.old }
+// The numbers of a refusal of the audit, of an opening or of a report: its question, its place, its excess.
+fn turned_down(no: AuditRefusal) -> [i64; 3]
+    ensures { result ≡ pos (number_of no.question) ∷ pos no.place ∷ no.excess ∷ [] }
 {
-    answer[0] = a;
-    answer[1] = b;
-    answer[2] = c;
+    [no.question.number() as i64, no.place as i64, no.excess]
 }
 
 // 3 accepted, with answer C, 0, 0; 0 refused, with question, place, excess; 4 where `answer` has fewer than 3 entries, and then nothing
@@ -208,18 +189,13 @@ pub extern "C" fn cuulipso_audit(
     if answer.len() < 3 {
         return 4;
     }
-    let said = auditing::audit(file, values, picks);
-    match said {
-        AuditAnswer::Accepted { least } => {
-            put3_signed(answer, least as i64, 0, 0);
+    match auditing::audit(file, values, picks) {
+        Ok(least) => {
+            put3(answer, [least as i64, 0, 0]);
             3
         }
-        AuditAnswer::Refused {
-            question,
-            place,
-            excess,
-        } => {
-            put3_signed(answer, question as i64, place as i64, excess);
+        Err(no) => {
+            put3(answer, turned_down(no));
             0
         }
     }
@@ -236,14 +212,13 @@ pub extern "C" fn cuulipso_set_form(file: &[u8], out: &mut [u8], answer: &mut [u
     if answer.len() < 3 {
         return 4;
     }
-    let said = exchanging::set_form(file, out);
-    match said {
-        WriteAnswer::Written { length } => {
-            put3(answer, length as u64, 0, 0);
+    match exchanging::set_form(file, out) {
+        Ok(length) => {
+            put3(answer, [length as u64, 0, 0]);
             3
         }
-        WriteAnswer::Refused { question, place } => {
-            put3(answer, question as u64, place as u64, 0);
+        Err(unwritten) => {
+            put3(answer, refused(unwritten));
             0
         }
     }

@@ -6,9 +6,9 @@ ghost use Rattle.model.specs.Interface.{Hands, report_handed, follower_in};
 ghost use Rattle.model.specs.Promises.{Answered};
 ghost use Rattle.capi.specs.Steps.{Showable};
 
-use crate::put3_signed;
+use crate::{put3, turned_down};
 use following::{Stepped, open_at_start, step};
-use model::{FollowAnswer, Follower};
+use model::Follower;
 
 // What a call hands back beside the answer's table: the record, and the status.
 #[derive(Drop)]
@@ -23,28 +23,25 @@ fn hand_on(s: Stepped, answer: &mut [i64]) -> Returned
     ensures { (said : Report) (lent : Follower) → Answered s.answer s.follower said
         → Hands (report_handed said) lent result.follower answer.old answer.new result.status }
 {
-    let w = s.follower;
-    let said = s.answer;
-    match said {
-        FollowAnswer::Done => {
-            put3_signed(answer, w.state as i64, w.moves as i64, w.seconds as i64);
-            Returned {
-                follower: w,
-                status: 3,
-            }
+    let follower = s.follower;
+    let status = match s.answer {
+        Ok(()) => {
+            put3(
+                answer,
+                [
+                    follower.state as i64,
+                    follower.moves as i64,
+                    follower.seconds as i64,
+                ],
+            );
+            3
         }
-        FollowAnswer::Refused {
-            question,
-            place,
-            excess,
-        } => {
-            put3_signed(answer, question as i64, place as i64, excess);
-            Returned {
-                follower: w,
-                status: 0,
-            }
+        Err(no) => {
+            put3(answer, turned_down(no));
+            0
         }
-    }
+    };
+    Returned { follower, status }
 }
 
 // An opening on a record by value: 4 where `answer` has fewer than 3 entries, and then it and the record are as they were.
@@ -85,18 +82,21 @@ fn reported(
 }
 
 // The record in its four numbers.
+// The C interface lends four numbers: a `From` would stand in `model`, away from it.
 fn follower_in(from: &[u64; 4]) -> Follower
     ensures { result ≡ follower_in from.now }
 {
+    let [state, moves, seconds, mark] = *from;
     Follower {
-        state: from[0],
-        moves: from[1],
-        seconds: from[2],
-        mark: from[3],
+        state,
+        moves,
+        seconds,
+        mark,
     }
 }
 
 // Writes a record to its four numbers.
+// Of the C interface, as `follower_in`.
 fn put_follower(to: &mut [u64; 4], w: Follower)
     ensures { follower_in to.new ≡ w }
 {

@@ -3,23 +3,23 @@
 use mathlib.Core.Path.{◌≡◌, refl, ◌∙◌, sym, ap}
 use Prim.Native.Nat.{ℕ, ◌+◌, ◌*◌, ◌≤◌, ◌<◌}
 use native.Mathlib.Omega.{arith}
-use mathlib.Core.Bool.{Bool, true, false, not}
+use mathlib.Core.Bool.{Bool, true, not}
 use mathlib.Core.List.{List}
-use lib.Dec.{leb, eqb}
+use lib.Dec.{eqb}
 use lib.ListN.{length, get_or}
 use borrow.Author.Tests.{lt-leb, le-leb, eq-eqb, ne_eqb, ltb-true}
 use Rattle.model.specs.Bytes.{u32_at}
 use Rattle.model.specs.Limits.{max_penalty, weight_totals}
-use Rattle.model.specs.Problem.{end_row, give_up_cost}
+use Rattle.model.specs.Problem.{give_up_cost}
 use Rattle.model.specs.Questions.{Verdict, passes, fails, ◌then◌, ask, ask_each, state_obeys, row_sound}
 use Rattle.model.specs.Questions.{layout_questions, setting_questions, state_question, start_question}
 use Rattle.model.specs.Questions.{row_number_question, row_question, outcome_number_question, outcome_question, estimate_question}
 use Rattle.model.specs.Questions.{item_questions, file_questions, file_questions_within, undercut_state}
 use Rattle.model.specs.Rounds.{fill_to}
-use Rattle.model.specs.Search.{first, sum_to, one_of}
+use Rattle.model.specs.Search.{sum_to, one_of}
 use Rattle.model.specs.Sections.{problem_of, outcome_at, goal_byte_of}
 use Rattle.model.specs.Value.{by_state}
-use Rattle.guarantee.specs.Searches.{each_yes, then_first}
+use Rattle.guarantee.specs.Searches.{then_first}
 use Rattle.guarantee.specs.Tables.{fill_entry}
 use Rattle.guarantee.specs.Undercuts.{SameRows, undercut_state_same, undercut_row_same}
 use Rattle.guarantee.specs.WellFormed.{between_high, settings_yes, successors_states}
@@ -31,11 +31,11 @@ use Rattle.checking.specs.Stretches.{ItemsAnswered, FileAnswered}
 use Rattle.checking.specs.IndexLeft.{states_filled, rows_filled, left_after}
 use Rattle.reading.specs.Fields.{estimates_are, row_counts_are, first_rows_are, row_costs_are, outcome_starts_are}
 use Rattle.reading.specs.Laid.{SettingsOf}
-use Rattle.reading.specs.Ready.{Undercuts}
+use Rattle.reading.specs.Ready.{Ready, Undercuts}
 use Rattle.reading.specs.Bounds.{byte_bound}
 use Rattle.reading.specs.Tests.{row_test, row_count_at, outcome_count_at, ticks_at, all_entries, RowsIndexed, index_for}
 use Rattle.reading.specs.Tests.{outcomes_in, part_of}
-use Rattle.checking.specs.ItemTests.{SettingAnswer, setting_question, state_test}
+use Rattle.checking.specs.ItemTests.{SettingsAnswered, state_test}
 use Rattle.checking.proofs.Indexing.{index_holds, same_search, index_ready}
 
 -- a refusal passes nothing
@@ -61,9 +61,6 @@ module _ {f : List ℕ} {l : Layout} (asked : RowsAsked f l) where
   abbrev row_sum : ℕ
   row_sum = sum_to (row_count_at f l.at1) l.states
 
-  abbrev bad_row : ℕ
-  bad_row = first (row_test f l.at2) 0 l.rows
-
   abbrev outcome_sum : ℕ
   outcome_sum = sum_to (outcome_count_at f l.at2) l.rows
 
@@ -84,18 +81,9 @@ module _ {f : List ℕ} {l : Layout} (asked : RowsAsked f l) where
 
   -- question 8
 
-  eight : row_question f (problem_of f) ≡ ask 8 bad_row (leb l.rows bad_row)
+  pub eight : {said : Verdict} → said ≡ ask_each 8 l.rows (row_test f l.at2) → row_question f (problem_of f) ≡ said
   unfolding row_question
-  eight = rw (asked.laid.rows_at_lem, asked.laid.rows_are)
-
-  pub eight_no : {r : ℕ} → r ≡ bad_row → r < l.rows → row_question f (problem_of f) ≡ fails 8 r
-  eight_no e h = rw (eight, ← e, lt-leb _ _ h)
-
-  pub eight_yes : {r : ℕ} → r ≡ bad_row → l.rows ≤ r → row_question f (problem_of f) ≡ passes
-  eight_yes e h = rw (eight, ← e, le-leb _ _ h)
-
-  pub rows_obey : {r : ℕ} → r ≡ bad_row → l.rows ≤ r → (j : ℕ) → j < l.rows → row_test f l.at2 j ≡ true
-  rows_obey e h = each_yes (row_test f l.at2) l.rows (rw (← e) (le-leb l.rows _ h))
+  eight e = sym (e ∙ rw (asked.laid.rows_at_lem, asked.laid.rows_are) refl)
 
   -- question 9
 
@@ -132,9 +120,9 @@ module _ {f : List ℕ} {l : Layout} (asked : RowsAsked f l) where
     rows_stop_7 e = record { verdict = rw e; left = rw e states_left; indexed = no_pass 7 0 }
 
     pub rows_stop_8
-        : {r : ℕ} → row_number_question (problem_of f) ≡ passes → row_question f (problem_of f) ≡ fails 8 r
-        → RowsAnswered f before states (fails 8 r)
-    rows_stop_8 d e = record { verdict = rw (d, e); left = rw (d, e) states_left; indexed = no_pass 8 _ }
+        : {q r : ℕ} → row_number_question (problem_of f) ≡ passes → row_question f (problem_of f) ≡ fails q r
+        → RowsAnswered f before states (fails q r)
+    rows_stop_8 d e = record { verdict = rw (d, e); left = rw (d, e) states_left; indexed = no_pass _ _ }
 
     module _ {after : List ℕ} {sum : ℕ} (rows : RowsIndexed f l.at2 l.rows l.at3 states after sum)
         (seventh : row_number_question (problem_of f) ≡ passes) (eighth : row_question f (problem_of f) ≡ passes) where
@@ -160,132 +148,95 @@ module _ {f : List ℕ} {l : Layout} (asked : RowsAsked f l) where
 -- questions 10 and 11
 
 module _ {f index : List ℕ} {l : Layout} (asked : ValuesAsked f index l) where
-  -- the first row whose part of the file does not obey section 3
-  module _ {total : ℕ} (is : total ≡ (problem_of f).total) where
-    abbrev bad_part : ℕ
-    bad_part = first (λ j. row_sound l.states total (outcomes_in (part_of f index j))) 0 l.rows
+  -- each row's part of the file obeys section 3
+  pub ten
+      : {total : ℕ} {said : Verdict} → total ≡ (problem_of f).total
+      → said ≡ ask_each 10 l.rows (λ j. row_sound l.states total (outcomes_in (part_of f index j)))
+      → outcome_question (problem_of f) ≡ said
+  unfolding outcome_question
+  ten is e = sym (e ∙ rw (is, asked.laid.states_are, asked.laid.rows_are, same_search asked.indexed) refl)
 
-    ten : outcome_question (problem_of f) ≡ ask 10 bad_part (leb l.rows bad_part)
-    unfolding outcome_question
-    ten = rw (is, asked.laid.states_are, asked.laid.rows_are, same_search asked.indexed)
+  pub values_stop_10 : {q r : ℕ} → outcome_question (problem_of f) ≡ fails q r → ValuesAnswered f index (fails q r)
+  values_stop_10 e = record { verdict = rw e; ready = no_pass _ _ }
 
-    pub ten_no : {r : ℕ} → r ≡ bad_part → r < l.rows → outcome_question (problem_of f) ≡ fails 10 r
-    ten_no e h = rw (ten, ← e, lt-leb _ _ h)
+  pub values_rest
+      : {said : Verdict} → outcome_question (problem_of f) ≡ passes → said ≡ estimate_question (problem_of f)
+      → ValuesAnswered f index said
+  values_rest d e = record { verdict = rw d e; ready = λ t. index_ready asked.indexed asked.total_known d }
 
-    pub ten_yes : {r : ℕ} → r ≡ bad_part → l.rows ≤ r → outcome_question (problem_of f) ≡ passes
-    ten_yes e h = rw (ten, ← e, le-leb _ _ h)
+-- question 11, of a table that has the estimates
 
-  module _ (passed : outcome_question (problem_of f) ≡ passes) (lent : List ℕ) {values : List ℕ} (long : l.states ≤ length lent)
-      (filled : values ≡ fill_to (problem_of f).estimate lent l.states) {s r : ℕ}
-      (found : Undercuts f (by_state values) s r) where
-    agree : (j : ℕ) → j < (problem_of f).states → by_state values j ≡ (problem_of f).estimate j
-    agree j h =
-        let below : j < l.states = rw asked.laid.states_are h in
-        rw filled (fill_entry (problem_of f).estimate lent l.states j long below)
+module _ {f index : List ℕ} (ready : Ready f index) (passed : outcome_question (problem_of f) ≡ passes) (lent : List ℕ) {n : ℕ}
+    {values : List ℕ} (states : n ≡ (problem_of f).states) (long : n ≤ length lent) (filled : values ≡ fill_to (problem_of f).estimate lent n) {s r : ℕ}
+    (found : Undercuts f (by_state values) s r) where
+  agree : (j : ℕ) → j < (problem_of f).states → by_state values j ≡ (problem_of f).estimate j
+  agree j h = let below : j < n = rw states h in rw filled (fill_entry (problem_of f).estimate lent n j long below)
 
-    within : (j : ℕ) → j < (problem_of f).states → end_row (problem_of f) j ≤ (problem_of f).rows
-    within = asked.indexed.within.rows_within_lem
+  rows_same : SameRows (problem_of f) (problem_of f) (by_state values) (problem_of f).estimate
+  rows_same =
+      record {
+        states = refl;
+        values = agree;
+        first_rows = λ j h. refl;
+        row_counts = λ j h. refl;
+        row_values =
+            λ j r h high.
+            let within = ready.indexed.within.rows_within_lem j h in
+            row_value-same (problem_of f) r _ _ (λ o i. agree o.successor (successors_states (problem_of f) passed r (omega arith) o i));
+      }
 
-    rows_same : SameRows (problem_of f) (problem_of f) (by_state values) (problem_of f).estimate
-    rows_same =
-        record {
-          states = refl;
-          values = agree;
-          first_rows = λ j h. refl;
-          row_counts = λ j h. refl;
-          row_values =
-              λ j r h high.
-              row_value-same (problem_of f) r _ _
-              (λ o i. agree o.successor (successors_states (problem_of f) passed r (omega (arith, within j h)) o i));
-        }
+  same_state : s ≡ undercut_state (problem_of f) (problem_of f).estimate
+  same_state = found.state_is ∙ undercut_state_same _ _ _ _ rows_same
 
-    same_state : s ≡ undercut_state (problem_of f) (problem_of f).estimate
-    same_state = found.state_is ∙ undercut_state_same _ _ _ _ rows_same
+  pub eleven_no : s < n → fails 11 r ≡ estimate_question (problem_of f)
+  unfolding estimate_question
+  eleven_no h =
+      let below : s < (problem_of f).states = rw (← states) h in
+      let row = found.row_is below ∙ undercut_row_same _ _ _ _ rows_same s below in
+      rw (← same_state, lt-leb _ _ below, ← row)
 
-    pub eleven_no : s < l.states → estimate_question (problem_of f) ≡ fails 11 r
-    unfolding estimate_question
-    eleven_no h =
-        let below : s < (problem_of f).states = rw (← asked.laid.states_are) h in
-        let row = found.row_is below ∙ undercut_row_same _ _ _ _ rows_same s below in
-        rw (← same_state, lt-leb _ _ below, ← row)
-
-    pub eleven_yes : l.states ≤ s → estimate_question (problem_of f) ≡ passes
-    unfolding estimate_question
-    eleven_yes h =
-        let above : (problem_of f).states ≤ s = rw (← asked.laid.states_are) h in
-        rw (← same_state, le-leb _ _ above)
-
-  pub values_stop_10 : {r : ℕ} → outcome_question (problem_of f) ≡ fails 10 r → ValuesAnswered f index (fails 10 r)
-  values_stop_10 e = record { verdict = rw e; ready = no_pass 10 _ }
-
-  pub values_stop_11
-      : {r : ℕ} → outcome_question (problem_of f) ≡ passes → estimate_question (problem_of f) ≡ fails 11 r
-      → ValuesAnswered f index (fails 11 r)
-  values_stop_11 d e = record { verdict = rw (d, e); ready = no_pass 11 _ }
-
-  pub values_pass
-      : outcome_question (problem_of f) ≡ passes → estimate_question (problem_of f) ≡ passes → ValuesAnswered f index passes
-  values_pass d e = record { verdict = rw (d, e); ready = λ t. index_ready asked.indexed asked.total_known d }
+  pub eleven_yes : n ≤ s → passes ≡ estimate_question (problem_of f)
+  unfolding estimate_question
+  eleven_yes h = let above : (problem_of f).states ≤ s = rw (← states) h in rw (← same_state, le-leb _ _ above)
 
 -- questions 4 to 6
 
 module _ {f : List ℕ} {l : Layout} (asked : RowsAsked f l) {set : Settings} (known : SettingsOf f set) where
   -- questions 4 and 24: what is known of the settings where they pass
 
-  module _ (bad : ℕ) (found : SettingAnswer set l.states bad) where
-    four : setting_questions (problem_of f) ≡ ask (setting_question bad) bad (leb 4 bad)
-    four =
-        found.says (problem_of f) (sym known.start_is) (sym asked.laid.states_are) (sym known.tolerance_is)
-        (sym known.penalty_is) (sym known.total_is)
+  pub four : {said : Verdict} → SettingsAnswered set l.states said → setting_questions (problem_of f) ≡ said
+  four found =
+      sym (found.says (problem_of f) (sym known.start_is) (sym asked.laid.states_are) (sym known.tolerance_is)
+      (sym known.penalty_is) (sym known.total_is))
 
-    pub four_no : bad < 4 → setting_questions (problem_of f) ≡ fails (setting_question bad) bad
-    four_no h = rw (four, lt-leb _ _ h)
+  module _ (found : SettingsAnswered set l.states passes) where
+    pub start_below : set.start < (problem_of f).states
+    start_below = rw known.start_is (ltb-true _ _ (settings_yes (problem_of f) (four found)).0)
 
-    pub four_yes : 4 ≤ bad → setting_questions (problem_of f) ≡ passes
-    four_yes h = rw (four, le-leb _ _ h)
+    pub penalty_fits : (problem_of f).penalty ≤ max_penalty
+    penalty_fits = between_high 1 max_penalty (problem_of f).penalty (settings_yes (problem_of f) (four found)).2
 
-    pub start_below : 4 ≤ bad → set.start < (problem_of f).states
-    start_below h = rw known.start_is (ltb-true _ _ (settings_yes (problem_of f) (four_yes h)).0)
+    pub total_fits : one_of (problem_of f).total weight_totals ≡ true
+    total_fits = (settings_yes (problem_of f) (four found)).3
 
-    pub penalty_fits : 4 ≤ bad → (problem_of f).penalty ≤ max_penalty
-    penalty_fits h = between_high 1 max_penalty (problem_of f).penalty (settings_yes (problem_of f) (four_yes h)).2
+  -- question 5: each state obeys section 1
 
-    pub total_fits : 4 ≤ bad → one_of (problem_of f).total weight_totals ≡ true
-    total_fits h = (settings_yes (problem_of f) (four_yes h)).3
-
-  -- question 5: the first state that does not obey section 1
-
-  module _ {limit : ℕ} (give : limit ≡ give_up_cost (problem_of f)) where
-    abbrev bad_state : ℕ
-    bad_state = first (state_test f l.at1 limit) 0 l.states
-
-    five : state_question f (problem_of f) ≡ ask 5 bad_state (leb l.states bad_state)
-    unfolding state_question
-    five =
-        let test : (ℕ → ℕ) → (ℕ → ℕ) → ℕ → Bool = λ estimate rows s. state_obeys limit (estimate s) (rows s) (goal_byte_of f s) in
-        let put : (ℕ → Bool) → Verdict = λ ok. ask_each 5 l.states ok in
-        let a = ap (λ e. put (test e (problem_of f).row_count)) (sym (estimates_are asked.laid)) in
-        let b = ap (λ c. put (test (λ s. u32_at f (l.at1 + 6 * s)) c)) (sym (row_counts_are asked.laid)) in
-        rw (← asked.laid.states_are, ← give) (a ∙ b ∙ rw asked.laid.states_at_lem)
-
-    pub five_no : {s : ℕ} → s ≡ bad_state → s < l.states → state_question f (problem_of f) ≡ fails 5 s
-    five_no e h = rw (five, ← e, lt-leb _ _ h)
-
-    pub five_yes : {s : ℕ} → s ≡ bad_state → l.states ≤ s → state_question f (problem_of f) ≡ passes
-    five_yes e h = rw (five, ← e, le-leb _ _ h)
+  pub five
+      : {limit : ℕ} {said : Verdict} → limit ≡ give_up_cost (problem_of f) → said ≡ ask_each 5 l.states (state_test f l.at1 limit)
+      → state_question f (problem_of f) ≡ said
+  unfolding state_question
+  five {limit = limit} give e =
+      let test : (ℕ → ℕ) → (ℕ → ℕ) → ℕ → Bool = λ estimate rows s. state_obeys limit (estimate s) (rows s) (goal_byte_of f s) in
+      let put : (ℕ → Bool) → Verdict = λ ok. ask_each 5 l.states ok in
+      let a = ap (λ e. put (test e (problem_of f).row_count)) (sym (estimates_are asked.laid)) in
+      let b = ap (λ c. put (test (λ s. u32_at f (l.at1 + 6 * s)) c)) (sym (row_counts_are asked.laid)) in
+      rw (← asked.laid.states_are, ← give) (a ∙ b ∙ rw asked.laid.states_at_lem refl) ∙ sym e
 
   -- question 6
 
-  six : {b : Bool} → b ≡ (problem_of f).goal set.start → start_question (problem_of f) ≡ ask 6 set.start (not b)
+  pub six : {b : Bool} → b ≡ (problem_of f).goal set.start → start_question (problem_of f) ≡ ask 6 set.start (not b)
   unfolding start_question
   six e = rw (e, known.start_is)
-
-  pub six_no
-      : {b : Bool} → b ≡ (problem_of f).goal set.start → b ≡ true → start_question (problem_of f) ≡ fails 6 set.start
-  six_no e h = six e ∙ rw h
-
-  pub six_yes : {b : Bool} → b ≡ (problem_of f).goal set.start → b ≡ false → start_question (problem_of f) ≡ passes
-  six_yes e h = six e ∙ rw h
 
 -- questions 4 to 11 together
 
@@ -294,10 +245,10 @@ module _ {f index : List ℕ} where
   items_stop_4 e = record { verdict = rw e; left = rw e; ready = no_pass _ _ }
 
   pub items_stop_5
-      : {i : ℕ} → setting_questions (problem_of f) ≡ passes → state_question f (problem_of f) ≡ fails 5 i
-      → ItemsAnswered f index index (fails 5 i)
+      : {q i : ℕ} → setting_questions (problem_of f) ≡ passes → state_question f (problem_of f) ≡ fails q i
+      → ItemsAnswered f index index (fails q i)
   unfolding item_questions
-  items_stop_5 d e = record { verdict = rw (d, e); left = rw (d, e); ready = no_pass 5 _ }
+  items_stop_5 d e = record { verdict = rw (d, e); left = rw (d, e); ready = no_pass _ _ }
 
   pub items_stop_6
       : {i : ℕ} → setting_questions (problem_of f) ≡ passes → state_question f (problem_of f) ≡ passes

@@ -1,5 +1,5 @@
 -- Laws that the proofs of this crate share.
-pub mod SectionAnswers
+pub mod Searching
 pub mod Indexing
 pub mod Asking
 pub mod Looking

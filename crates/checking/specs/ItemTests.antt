@@ -1,35 +1,17 @@
 -- The model's questions as the loops put them: of the item at a place counted from where its section's items begin.
-use Rattle.std.specs.Prelude.{◌≡◌, ℕ, zero, suc, ◌+◌, ◌*◌, ◌≤◌, Bool, true, false, List, leb, eqb, length, get_or}
+use Rattle.std.specs.Prelude.{◌≡◌, ℕ, ◌+◌, ◌*◌, ◌≤◌, Bool, List, length, get_or}
 use Rattle.model.specs.Bytes.{u16_at, u32_at}
 use Rattle.model.specs.Problem.{Problem}
-use Rattle.model.specs.Questions.{Verdict, passes, fails, ask, section_questions, setting_questions}
+use Rattle.model.specs.Questions.{Verdict, setting_questions}
 use Rattle.model.specs.Questions.{state_obeys, row_obeys}
 use Rattle.reading.specs.declared.settings.Settings.{Settings}
 use Rattle.reading.specs.Tests.{rows_base}
 use Rattle.reading.specs.Bounds.{max_byte}
 
--- a section's question by its number, 0 for none, as a verdict
-abbrev pub failing : ℕ → ℕ → Verdict
-failing zero place = passes
-failing (suc q) place = fails (suc q) place
-
--- what `section` answers of the section whose count stands at i, whatever its place
-pub record SectionAnswered (size low high : ℕ) (f : List ℕ) (i q : ℕ) : Type 0 where
-  pub says : (place : ℕ) → section_questions place i size low high f ≡ failing q place
-
--- the question that refuses a setting: 24 the fourth, 4 the others
-abbrev pub question_on : Bool → ℕ
-question_on true = 24
-question_on false = 4
-
-abbrev pub setting_question : ℕ → ℕ
-setting_question r = question_on (eqb r 3)
-
--- the first setting that question 4 or 24 refuses, or 4
-pub record SettingAnswer (s : Settings) (states r : ℕ) : Type 0 where
+-- what `setting_questions` answers of the settings
+pub record SettingsAnswered (s : Settings) (states : ℕ) (said : Verdict) : Type 0 where
   pub says : (p : Problem) → p.start ≡ s.start → p.states ≡ states → p.tolerance ≡ s.tolerance → p.penalty ≡ s.penalty
-      → p.total ≡ s.total → setting_questions p ≡ ask (setting_question r) r (leb 4 r)
-  pub most : r ≤ 4
+      → p.total ≡ s.total → said ≡ setting_questions p
 
 -- whether the state, or the row, whose bytes begin at i obeys its section
 abbrev pub state_obeys_at : List ℕ → ℕ → ℕ → Bool

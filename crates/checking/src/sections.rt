@@ -1,75 +1,50 @@
 // The four sections one by one: questions 1 to 3.
-ghost use Rattle.std.specs.Prelude.{◌≡◌, ◌≤◌, length};
+ghost use Rattle.std.specs.Prelude.{◌≡◌, ◌≤◌, length, IfOk};
 ghost use Rattle.model.specs.Answers.{verdict_of};
-ghost use Rattle.model.specs.Questions.{layout_questions};
-ghost use Rattle.checking.specs.ItemTests.{SectionAnswered};
+ghost use Rattle.model.specs.Questions.{section_questions, layout_questions};
+ghost use Rattle.model.specs.Sections.{section_end};
 
-use model::{FileAnswer, MAX_OUTCOMES, MAX_ROWS, MAX_SETTINGS, MAX_STATES, MIN_SETTINGS};
+use crate::items::is_between;
+use model::{MAX_OUTCOMES, MAX_ROWS, MAX_SETTINGS, MAX_STATES, MIN_SETTINGS, Question, Refusal};
 use reading::layout::section_end;
 use reading::numbers::u16_at;
 
-// The question, 1 or 2, that fails for the section whose count stands at `i`, or 0.
-fn section(file: &[u8], i: usize, size: usize, low: u32, high: u32) -> u8
+// Questions 1 and 2 about section `place`, whose count stands at `i` and may be `low` to `high`: where its items end.
+fn section(
+    file: &[u8],
+    place: u32,
+    i: usize,
+    size: usize,
+    low: u32,
+    high: u32,
+) -> Result<usize, Refusal>
     requires { (i ≤ length file.now) × (size ≤ 6) }
-    ensures { SectionAnswered size low high file.now i result }
+    ensures verdict { verdict_of result ≡ section_questions place i size low high file.now }
+    ensures ends { IfOk result (λ end. (end ≡ section_end size file.now i) × (end ≤ length file.now)) }
 {
     if file.len() < i + 2 {
-        return 1;
+        return Err(Question::Whole.at(place));
     }
-    let count = u16_at(file, i);
-    if count < low {
-        return 2;
+    if !is_between(low, high, u16_at(file, i)) {
+        return Err(Question::Count.at(place));
     }
-    if high < count {
-        return 2;
+    let end = section_end(file, i, size);
+    if file.len() < end {
+        return Err(Question::Whole.at(place));
     }
-    if file.len() < i + 2 + size * (count as usize) {
-        return 1;
-    }
-    0
+    Ok(end)
 }
 
 // Questions 1 to 3.
-pub fn sections(file: &[u8]) -> FileAnswer
+pub fn sections(file: &[u8]) -> Result<(), Refusal>
     ensures { verdict_of result ≡ layout_questions file.now }
 {
-    let q0 = section(file, 0, 4, MIN_SETTINGS, MAX_SETTINGS);
-    if q0 != 0 {
-        return FileAnswer::Refused {
-            question: q0,
-            place: 0,
-        };
+    let states = section(file, 0, 0, 4, MIN_SETTINGS, MAX_SETTINGS)?;
+    let rows = section(file, 1, states, 6, 1, MAX_STATES as u32)?;
+    let outcomes = section(file, 2, rows, 4, 0, MAX_ROWS as u32)?;
+    let end = section(file, 3, outcomes, 4, 0, MAX_OUTCOMES as u32)?;
+    if end != file.len() {
+        return Err(Question::End.at(3));
     }
-    let i1 = section_end(file, 0, 4);
-    let q1 = section(file, i1, 6, 1, MAX_STATES as u32);
-    if q1 != 0 {
-        return FileAnswer::Refused {
-            question: q1,
-            place: 1,
-        };
-    }
-    let i2 = section_end(file, i1, 6);
-    let q2 = section(file, i2, 4, 0, MAX_ROWS as u32);
-    if q2 != 0 {
-        return FileAnswer::Refused {
-            question: q2,
-            place: 2,
-        };
-    }
-    let i3 = section_end(file, i2, 4);
-    let q3 = section(file, i3, 4, 0, MAX_OUTCOMES as u32);
-    if q3 != 0 {
-        return FileAnswer::Refused {
-            question: q3,
-            place: 3,
-        };
-    }
-    if section_end(file, i3, 4) == file.len() {
-        FileAnswer::Passed
-    } else {
-        FileAnswer::Refused {
-            question: 3,
-            place: 3,
-        }
-    }
+    Ok(())
 }

@@ -2,5 +2,6 @@
 pub mod Inserting
 pub mod Shifting
 pub mod RowLoops
+pub mod RowsGathered
 pub mod FormSections
 pub mod Replies

@@ -1,180 +1,158 @@
-// The sections of a set form, one after the other, at the front of a buffer that has room for them.
-ghost use Rattle.std.specs.Prelude.{◌≡◌, ◌++◌, ◌+◌, ◌*◌, ◌≤◌, ◌<◌, eqb, length, take};
-ghost use Rattle.model.specs.Buffers.{Holds, copied};
+// A file's set form: its sections are put one after the other, at the front of a buffer that has room for them.
+ghost use Rattle.std.specs.Prelude.{ℕ, List, ◌≡◌, ◌++◌, ◌+◌, ◌*◌, ◌≤◌, ◌<◌, eqb, length};
+ghost use Rattle.model.specs.Buffers.{copied};
 ghost use Rattle.model.specs.Bytes.{number_bytes};
-ghost use Rattle.model.specs.Encoding.{parts_to, settings_on, setting_number, setting_bytes, goal_byte, state_bytes};
-ghost use Rattle.model.specs.Limits.{thousandths, max_settings, max_states, max_rows, max_outcomes};
-ghost use Rattle.model.specs.Questions.{passes, layout_questions};
-ghost use Rattle.model.specs.Rounds.{fill_to};
+ghost use Rattle.model.specs.Encoding.{parts_to, settings_on, setting_number, setting_bytes, state_bytes, row_bytes};
+ghost use Rattle.model.specs.Limits.{thousandths};
+ghost use Rattle.model.specs.Questions.{passes, file_questions};
 ghost use Rattle.model.specs.Sections.{problem_of};
 ghost use Rattle.model.specs.SetForm.{set_form};
-ghost use Rattle.reading.specs.Tests.{rows_base, index_for};
-ghost use Rattle.exchanging.specs.FormAsks.{form_of, form_count, row_codes, Accepted, row_as, code_as, form_length, FormAsked};
+ghost use Rattle.writing.specs.Pages.{Puts, Room};
+ghost use Rattle.exchanging.specs.FormAsks.{form_of, row_codes, code_as, Counted};
 
-use crate::gathering::gather_row;
-use model::{MAX_OUTCOMES, MAX_ROWS, MAX_SETTINGS, MIN_SETTINGS, THOUSANDTHS};
+use crate::sections::{Section, put_section};
+use model::{MAX_SETTINGS, MIN_SETTINGS, THOUSANDTHS};
 use reading::layout::layout_of;
 use reading::outcomes::seconds_of;
-use reading::settings::settings_of;
-use reading::states::{estimate_of, is_goal, row_count_of};
-use writing::numbers::{put8, put16, put32};
+use reading::problem::Problem;
+use reading::settings::total_of;
+use reading::states::{estimate_of, row_count_of};
+use writing::page::Page;
 
-// Gathers the outcomes of the rows into the table, one row after the other, and fills in how many each has. Answers how many there
-// are in all.
-pub fn gather_rows(
-    file: &[u8],
-    index: &[u32],
-    rows: usize,
-    table: &mut [u32; MAX_OUTCOMES],
-    counts: &mut [u8; MAX_ROWS],
-) -> usize
-    requires { Accepted file.now index.now × (rows ≡ (problem_of file.now).rows)
-        × (length table.old ≡ max_outcomes) }
-    ensures { Holds table.old table.new result (parts_to (row_codes file.now) rows)
-        × (counts.new ≡ fill_to (form_count file.now) counts.old rows) }
+// Whether a weight total is the usual one, 1,000, for which there is no fourth setting.
+fn is_usual(total: u32) -> bool
+    ensures { result ≡ eqb total thousandths }
 {
-    let mut total = 0;
-    let mut r = 0;
-    while r < rows {
-        let end = gather_row(file, index, r, table, total);
-        counts[r] = (end - total) as u8;
-        total = end;
-        r += 1;
-    }
-    total
+    total == THOUSANDTHS
 }
 
 // How many settings the form has: four, unless the weight total is 1,000.
-pub fn setting_number(total: u32) -> u32
+fn setting_number(total: u32) -> u32
     ensures { result ≡ settings_on (eqb total thousandths) }
 {
-    if total == THOUSANDTHS {
+    if is_usual(total) {
         MIN_SETTINGS
     } else {
         MAX_SETTINGS
     }
 }
 
-// How long the form of so many settings, states, rows and outcomes is.
-pub fn form_length(settings: u32, states: usize, rows: usize, outcomes: usize) -> usize
-    requires { (settings ≤ max_settings) × (states ≤ max_states) × (rows ≤ max_rows) × (outcomes ≤ max_outcomes) }
-    ensures { result ≡ form_length settings states rows outcomes }
-{
-    2 + 4 * (settings as usize) + 2 + 6 * states + 2 + 4 * rows + 2 + 4 * outcomes
+// An accepted file with what its set form has of its own: how many outcomes each row has, and their codes, one row
+// after the other.
+#[derive(Clone, Copy)]
+pub struct Form<'a> {
+    pub problem: Problem<'a>,
+    pub counts: &'a [u8],
+    pub codes: &'a [u32],
+    pub ghost passed: { file_questions problem.file.now ≡ passes },
+    pub ghost counted: { Counted problem.file.now counts.now },
+    pub ghost coded: { codes.now ≡ parts_to (row_codes problem.file.now) (problem_of problem.file.now).rows },
 }
 
-// Puts the settings at the front, after their count.
-fn put_settings(file: &[u8], out: &mut [u8]) -> usize
-    requires { (layout_questions file.now ≡ passes) × (2 + 4 * setting_number (form_of file.now) ≤ length out.old) }
-    ensures { Holds
-        out.old out.new result
-        (number_bytes 2 (setting_number (form_of file.now)) ++ setting_bytes (form_of file.now)) }
-{
-    let set = settings_of(file);
-    let at1 = put16(out, 0, setting_number(set.total));
-    let at2 = put32(out, at1, set.start);
-    let at3 = put32(out, at2, set.tolerance);
-    let at4 = put32(out, at3, set.penalty);
-    if set.total == THOUSANDTHS {
-        return at4;
+impl<'a> Form<'a> {
+    // How long it is.
+    pub fn len(self) -> usize
+        ensures { result ≡ length (set_form self.entry.problem.file.now) }
+    {
+        let settings = setting_number(total_of(self.problem.file)) as usize;
+        let states = layout_of(self.problem.file).states;
+        let (rows, outcomes) = (self.counts.len(), self.codes.len());
+        2 + 4 * settings + 2 + 6 * states + 2 + 4 * rows + 2 + 4 * outcomes
     }
-    put32(out, at4, set.total)
-}
 
-// The byte of a goal, or of a state that is none.
-fn goal_byte(goal: bool) -> u8
-    ensures { result ≡ goal_byte goal }
-{
-    if goal { 1 } else { 0 }
-}
-
-// Puts state s.
-fn put_state(file: &[u8], s: usize, out: &mut [u8], at: usize) -> usize
-    requires { (layout_questions file.now ≡ passes) × (s < (problem_of file.now).states) × (at + 6 ≤ length out.old) }
-    ensures { Holds
-        out.old out.new result (take at out.old ++ state_bytes (form_of file.now) s) }
-{
-    let at1 = put32(out, at, estimate_of(file, s));
-    let at2 = put8(out, at1, row_count_of(file, s) as u8);
-    put8(out, at2, goal_byte(is_goal(file, s)))
-}
-
-// Puts the n states, after their count.
-fn put_states(file: &[u8], n: usize, out: &mut [u8], at: usize) -> usize
-    requires { (layout_questions file.now ≡ passes) × (n ≡ (problem_of file.now).states) × (n ≤ max_states)
-        × (at + 2 + 6 * n ≤ length out.old) }
-    ensures { Holds
-        out.old out.new result
-        (take at out.old ++ (number_bytes 2 n ++ parts_to (state_bytes (form_of file.now)) n)) }
-{
-    let mut to = put16(out, at, n as u32);
-    let mut s = 0;
-    while s < n {
-        to = put_state(file, s, out, to);
-        s += 1;
+    // Puts the settings, after their count.
+    fn put_settings(self, page: &mut Page<'_>)
+        requires { Room page.old (2 + 4 * setting_number (form_of self.problem.file.now)) }
+        ensures { Puts
+            page.old page.new
+            (number_bytes 2 (setting_number (form_of self.entry.problem.file.now))
+            ++ setting_bytes (form_of self.entry.problem.file.now)) }
+    {
+        let settings = self.problem.settings();
+        page.put_number::<2>(setting_number(settings.total));
+        page.put_number::<4>(settings.start);
+        page.put_number::<4>(settings.tolerance);
+        page.put_number::<4>(settings.penalty);
+        if is_usual(settings.total) {
+            return;
+        }
+        page.put_number::<4>(settings.total);
     }
-    to
-}
 
-// Puts row r: kind 0, its number of outcomes, its seconds.
-fn put_row(index: &[u32], counts: &[u8; MAX_ROWS], r: usize, out: &mut [u8], at: usize) -> usize
-    requires { (r < max_rows) × (rows_base + 2 * r + 1 < length index.now) × (at + 4 ≤ length out.old) }
-    ensures { Holds
-        out.old out.new result
-        (take at out.old ++ row_as index.now counts.now r) }
-{
-    let at1 = put8(out, at, 0);
-    let at2 = put8(out, at1, counts[r]);
-    put16(out, at2, seconds_of(index, r))
-}
-
-// Puts the n rows, after their count.
-fn put_rows(index: &[u32], counts: &[u8; MAX_ROWS], n: usize, out: &mut [u8], at: usize) -> usize
-    requires { (n ≤ max_rows) × (index_for n ≤ length index.now) × (at + 2 + 4 * n ≤ length out.old) }
-    ensures { Holds
-        out.old out.new result
-        (take at out.old ++ (number_bytes 2 n ++ parts_to (row_as index.now counts.now) n)) }
-{
-    let mut to = put16(out, at, n as u32);
-    let mut r = 0;
-    while r < n {
-        to = put_row(index, counts, r, out, to);
-        r += 1;
+    // Puts the whole form at the front.
+    pub fn put(self, out: &mut [u8])
+        requires { length (set_form self.problem.file.now) ≤ length out.old }
+        ensures { out.new ≡ copied (set_form self.entry.problem.file.now) out.old }
+    {
+        let mut page = Page::new(out);
+        self.put_settings(&mut page);
+        put_section(&States { form: self }, &mut page);
+        put_section(&Rows { form: self }, &mut page);
+        put_section(&Outcomes { form: self }, &mut page);
     }
-    to
 }
 
-// Puts the n outcomes whose codes the table has, after their count.
-fn put_outcomes(table: &[u32; MAX_OUTCOMES], n: usize, out: &mut [u8], at: usize) -> usize
-    requires { (n ≤ max_outcomes) × (at + 2 + 4 * n ≤ length out.old) }
-    ensures { Holds
-        out.old out.new result
-        (take at out.old ++ (number_bytes 2 n ++ parts_to (code_as table.now) n)) }
-{
-    let mut to = put16(out, at, n as u32);
-    let mut i = 0;
-    while i < n {
-        to = put32(out, to, table[i]);
-        i += 1;
+// The states: each has its estimate, the number of its rows, and whether it is a goal.
+#[derive(Drop)]
+struct States<'a> {
+    form: Form<'a>,
+}
+
+impl<'a> Section for States<'a> {
+    ghost number = { λ x. (problem_of x.form.problem.file.now).states };
+
+    ghost text = { λ x. state_bytes (form_of x.form.problem.file.now) };
+
+    fn count(&self) -> usize {
+        layout_of(self.form.problem.file).states
     }
-    to
+
+    fn put_item(&self, s: usize, page: &mut Page<'_>) {
+        let problem = self.form.problem;
+        page.put_number::<4>(estimate_of(problem.file, s));
+        page.put_number::<1>(row_count_of(problem.file, s));
+        page.put_number::<1>(u32::from(problem.is_goal(s)));
+    }
 }
 
-// Puts the whole form at the front.
-pub fn put_form(
-    file: &[u8],
-    index: &[u32],
-    counts: &[u8; MAX_ROWS],
-    table: &[u32; MAX_OUTCOMES],
-    outcomes: usize,
-    out: &mut [u8],
-)
-    requires { FormAsked file.now index.now counts.now table.now outcomes out.old }
-    ensures { out.new ≡ copied (set_form file.now) out.old }
-{
-    let l = layout_of(file);
-    let at1 = put_settings(file, out);
-    let at2 = put_states(file, l.states, out, at1);
-    let at3 = put_rows(index, counts, l.rows, out, at2);
-    put_outcomes(table, outcomes, out, at3);
+// The rows: each has kind 0, its number of outcomes, its seconds.
+#[derive(Drop)]
+struct Rows<'a> {
+    form: Form<'a>,
+}
+
+impl<'a> Section for Rows<'a> {
+    ghost number = { λ x. (problem_of x.form.problem.file.now).rows };
+
+    ghost text = { λ x. row_bytes (form_of x.form.problem.file.now) };
+
+    fn count(&self) -> usize {
+        self.form.counts.len()
+    }
+
+    fn put_item(&self, r: usize, page: &mut Page<'_>) {
+        page.put_number::<1>(0);
+        page.put_number::<1>(u32::from(self.form.counts[r]));
+        page.put_number::<2>(seconds_of(self.form.problem.index, r));
+    }
+}
+
+// The outcomes of all rows, by their codes.
+#[derive(Drop)]
+struct Outcomes<'a> {
+    form: Form<'a>,
+}
+
+impl<'a> Section for Outcomes<'a> {
+    ghost number = { λ x. length x.form.codes.now };
+
+    ghost text = { λ x. code_as x.form.codes.now };
+
+    fn count(&self) -> usize {
+        self.form.codes.len()
+    }
+
+    fn put_item(&self, i: usize, page: &mut Page<'_>) {
+        page.put_number::<4>(self.form.codes[i]);
+    }
 }

@@ -1,2 +1,2 @@
 -- What the functions of this crate ask and promise, in the model's terms.
-pub mod Asked
+pub mod Handing

@@ -1,6 +1,6 @@
 -- What answers carry: the code's answer carries what the answer of the same name in the definitions does, and nothing is
 -- lost, since an answer can be told from what it carries.
-use Rattle.std.specs.Prelude.{◌≡◌, refl}
+use Rattle.std.specs.Prelude.{◌≡◌, ℕ, refl, Result, Ok, Err}
 use Rattle.std.proofs.Common.{◌∙◌, ap}
 use Rattle.model.specs.Carried.{Said, Carried}
 use Rattle.model.specs.Questions.{Verdict, passes, fails}
@@ -10,28 +10,26 @@ use Rattle.model.specs.Answers.{file_carries, solve_carries, audit_carries, verd
 use Rattle.model.specs.Answers.{followed_carries, wrote_carries, verdict_of, answer_of, audited_of}
 use Rattle.model.specs.Following.{Followed, done, refused as report_refused}
 use Rattle.model.specs.Buffers.{Wrote, written, refused as write_refused}
+use Rattle.model.specs.declared.AuditRefusal.{AuditRefusal}
+use Rattle.model.specs.declared.Ended.{Ended}
+use Rattle.model.specs.declared.Ended.TheVariants.{Solved, Spent}
 use Rattle.model.specs.declared.Follower.{Follower}
-use Rattle.model.specs.declared.FileAnswer.{FileAnswer}
-use Rattle.model.specs.declared.FileAnswer.TheVariants.{Passed, Refused}
-use Rattle.model.specs.declared.SolveAnswer.{SolveAnswer}
-use Rattle.model.specs.declared.SolveAnswer.TheVariants.{Solved, Spent, Refused as TurnedDown}
-use Rattle.model.specs.declared.AuditAnswer.{AuditAnswer}
-use Rattle.model.specs.declared.AuditAnswer.TheVariants.{Accepted, Refused as AuditRefused}
+use Rattle.model.specs.declared.Refusal.{Refusal}
 
 -- the code's answer and its reading carry the same
 
-pub verdict_carries_lem : (r : FileAnswer) → verdict_carries (verdict_of r) ≡ file_carries r
-verdict_carries_lem Passed = refl
-verdict_carries_lem (Refused q i) = refl
+pub verdict_carries_lem : (r : Result Unit Refusal) → verdict_carries (verdict_of r) ≡ file_carries r
+verdict_carries_lem (Ok _) = refl
+verdict_carries_lem (Err _) = refl
 
-pub answer_carries_lem : (r : SolveAnswer) → answer_carries (answer_of r) ≡ solve_carries r
-answer_carries_lem (Solved counts) = refl
-answer_carries_lem (Spent counts) = refl
-answer_carries_lem (TurnedDown q i) = refl
+pub answer_carries_lem : (r : Result Ended Refusal) → answer_carries (answer_of r) ≡ solve_carries r
+answer_carries_lem (Ok (Solved _)) = refl
+answer_carries_lem (Ok (Spent _)) = refl
+answer_carries_lem (Err _) = refl
 
-pub audited_carries_lem : (r : AuditAnswer) → audited_carries (audited_of r) ≡ audit_carries r
-audited_carries_lem (Accepted least) = refl
-audited_carries_lem (AuditRefused q i excess) = refl
+pub audited_carries_lem : (r : Result ℕ AuditRefusal) → audited_carries (audited_of r) ≡ audit_carries r
+audited_carries_lem (Ok _) = refl
+audited_carries_lem (Err _) = refl
 
 -- answers that carry the same are the same
 
@@ -76,13 +74,13 @@ wrote_one (write_refused q i) (write_refused r j) e = ap (λ (c : Carried). writ
 
 -- so a promise of what is carried is a promise of the answer
 
-pub verdict_known : (r : FileAnswer) (a : Verdict) → file_carries r ≡ verdict_carries a → verdict_of r ≡ a
+pub verdict_known : (r : Result Unit Refusal) (a : Verdict) → file_carries r ≡ verdict_carries a → verdict_of r ≡ a
 verdict_known r a e = verdict_one (verdict_of r) a (verdict_carries_lem r ∙ e)
 
-pub answer_known : (r : SolveAnswer) (a : Answer) → solve_carries r ≡ answer_carries a → answer_of r ≡ a
+pub answer_known : (r : Result Ended Refusal) (a : Answer) → solve_carries r ≡ answer_carries a → answer_of r ≡ a
 answer_known r a e = answer_one (answer_of r) a (answer_carries_lem r ∙ e)
 
-pub audited_known : (r : AuditAnswer) (a : Audited) → audit_carries r ≡ audited_carries a → audited_of r ≡ a
+pub audited_known : (r : Result ℕ AuditRefusal) (a : Audited) → audit_carries r ≡ audited_carries a → audited_of r ≡ a
 audited_known r a e = audited_one (audited_of r) a (audited_carries_lem r ∙ e)
 
 -- and what was said tells the case

@@ -1,11 +1,13 @@
 -- What leads up to the theorems about the model: what document 01's rules lead to. Nothing here has to be believed. The theorems stand in
 -- proofs/, in Guarantee.
 
--- Searches, sums, tables, loops, and what answers carry
+-- Searches, sums, tables, loops, finds, and what answers carry
 pub mod Searches
 pub mod Sums
 pub mod Tables
 pub mod Loops
+pub mod Found
+pub mod Finds
 pub mod Carries
 -- The file: what its questions give, row values, rates, totals
 pub mod Values

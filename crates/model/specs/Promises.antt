@@ -1,6 +1,6 @@
 -- What the calls promise beyond the definitions' own answers: the clauses of the contracts of `solve`, `audit`,
 -- of following, of writing files, and of the programs `plan` and `audit`.
-use Rattle.std.specs.Prelude.{◌≡◌, ℕ, suc, ◌+◌, ◌-◌, ◌*◌, ◌≤◌, Bool, true, false, List, leb, ℤ, pos, negsuc, length, replicate, take}
+use Rattle.std.specs.Prelude.{◌≡◌, ℕ, suc, ◌+◌, ◌-◌, ◌*◌, ◌≤◌, Bool, true, false, List, leb, ℤ, pos, negsuc, length, replicate, take, Result}
 use Rattle.model.specs.Limits.{Limits, in_force, list_end, plan_rounds, plan_holds}
 use Rattle.model.specs.Problem.{Problem}
 use Rattle.model.specs.Sections.{at_tolerance, problem_of}
@@ -17,8 +17,8 @@ use Rattle.model.specs.Buffers.{Writing, Holds}
 use Rattle.model.specs.declared.Kind.{Kind}
 use Rattle.model.specs.declared.Kind.TheVariants.{Plain, Finishing}
 use Rattle.model.specs.declared.Follower.{Follower}
-use Rattle.model.specs.declared.FollowAnswer.{FollowAnswer}
-use Rattle.model.specs.declared.WriteAnswer.{WriteAnswer}
+use Rattle.model.specs.declared.AuditRefusal.{AuditRefusal}
+use Rattle.model.specs.declared.Refusal.{Refusal}
 use Rattle.model.specs.Lines.{plan_text, run_states, audit_line}
 use Rattle.model.specs.TableFiles.{entries16, entries32}
 
@@ -79,12 +79,12 @@ pub record ExcessFits (e q : ℕ) (z : ℤ) : Type 0 where
   pub none : (q ≡ 17 → ⊥) → (q ≡ 19 → ⊥) → z ≡ pos 0
 
 -- what an opening or a report answers, and the record as it leaves it, are those of a definition
-pub record Answered (answer : FollowAnswer) (left : Follower) (said : Report) : Type 0 where
+pub record Answered (answer : Result Unit AuditRefusal) (left : Follower) (said : Report) : Type 0 where
   pub answer_is : follow_carries answer left ≡ followed_carries said.answer said.left
   pub left_is : left ≡ said.left
 
 -- what writing a file answers, and the output as it leaves it, are those of a definition
-pub record Writes (answer : WriteAnswer) (left : List ℕ) (said : Writing) : Type 0 where
+pub record Writes (answer : Result ℕ Refusal) (left : List ℕ) (said : Writing) : Type 0 where
   pub answer_is : write_carries answer ≡ wrote_carries said.answer
   pub left_is : left ≡ said.left
 

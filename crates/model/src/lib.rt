@@ -1,6 +1,8 @@
 // The answers and the limits of document 01. What they mean is in specs/.
 #![tactic(auto)]
 
+ghost use Rattle.std.specs.Prelude.{◌≡◌, pos};
+
 // The numbers of document 01, each under the name that specs/Limits.antt gives it.
 
 // The largest problem: section counts that question 2 lets through.
@@ -29,6 +31,8 @@ pub const THOUSANDTHS: u32 = 1000;
 pub const TWELVE_BITS: u32 = 4096;
 
 pub const TEN_THOUSANDTHS: u32 = 10000;
+
+pub const WEIGHT_TOTALS: [u32; 4] = [HUNDREDTHS, THOUSANDTHS, TWELVE_BITS, TEN_THOUSANDTHS];
 
 // Melt rates in tenths of a millimetre per minute.
 pub const MIN_RATE: u32 = 10;
@@ -72,15 +76,86 @@ pub const LONGEST_FILE: usize = 8
     + 4 * MAX_ROWS
     + 4 * MAX_OUTCOMES;
 
-// The answer to questions 1 to 11 about a file.
-#[derive(Clone, Copy)]
-pub enum FileAnswer {
-    Passed,
-    Refused { question: u8, place: u32 },
+// The questions of the papers, each under its number. What they ask stands in specs/: Questions, Solution, Audit, Following, Buffers.
+#[derive(Clone, Copy, PartialEq, Eq)]
+pub enum Question {
+    Whole = 1,
+    Count = 2,
+    End = 3,
+    Setting = 4,
+    State = 5,
+    Start = 6,
+    RowNumbers = 7,
+    Row = 8,
+    OutcomeNumbers = 9,
+    Outcomes = 10,
+    Estimate = 11,
+    RunTables = 12,
+    Budget = 13,
+    AuditTables = 15,
+    Bounds = 16,
+    Undercut = 17,
+    Stray = 18,
+    Slack = 19,
+    Underway = 20,
+    Shift = 21,
+    Outcome = 22,
+    Room = 23,
+    WeightTotal = 24,
+    Input = 25,
+}
+
+impl Question {
+    ghost use Rattle.model.specs.Answers.{number_of};
+
+    // The refusal by this question, with its place.
+    pub fn at(self, place: u32) -> Refusal
+        ensures { result ≡ record { question = self; place = place } }
+    {
+        Refusal {
+            question: self,
+            place,
+        }
+    }
+
+    // The number of the question.
+    pub fn number(self) -> u8
+        ensures { result ≡ number_of self }
+    {
+        self as u8
+    }
+}
+
+// "A no ends the call with the number and a place".
+#[derive(Clone, Copy, PartialEq, Eq)]
+pub struct Refusal {
+    pub question: Question,
+    pub place: u32,
+}
+
+// A refusal of the audit, of an opening or of a report: "The audit's refusals carry an excess".
+#[derive(Clone, Copy, PartialEq, Eq)]
+pub struct AuditRefusal {
+    pub question: Question,
+    pub place: u32,
+    pub excess: i64,
+}
+
+// A refusal of the file is one of the audit, whose excess is "0 elsewhere".
+impl From<Refusal> for AuditRefusal {
+    ghost from_gives = { λ r a. a ≡ record { question = r.question; place = r.place; excess = pos 0 } };
+
+    fn from(refusal: Refusal) -> AuditRefusal {
+        AuditRefusal {
+            question: refusal.question,
+            place: refusal.place,
+            excess: 0,
+        }
+    }
 }
 
 // Which run: the plain one ends with a quiet round, the finishing one goes on from there, to the tick.
-#[derive(Clone, Copy)]
+#[derive(Clone, Copy, PartialEq, Eq)]
 pub enum Kind {
     Plain,
     Finishing,
@@ -94,25 +169,11 @@ pub struct Counts {
     pub least: u32,
 }
 
-// The answer of a solved file: questions 1 to 13, or how the run ended.
+// How a run ended, and what it counted.
 #[derive(Clone, Copy)]
-pub enum SolveAnswer {
-    Solved { counts: Counts },
-    Spent { counts: Counts },
-    Refused { question: u8, place: u32 },
-}
-
-// The answer of the audit: questions 1 to 11 and 15 to 19, with the excess of a refusal.
-#[derive(Clone, Copy)]
-pub enum AuditAnswer {
-    Accepted {
-        least: u32,
-    },
-    Refused {
-        question: u8,
-        place: u32,
-        excess: i64,
-    },
+pub enum Ended {
+    Solved(Counts),
+    Spent(Counts),
 }
 
 // The record of a shift: the state it is in, the moves made and the seconds spent, and its mark: 0 clear, anything else set. It is the
@@ -124,22 +185,4 @@ pub struct Follower {
     pub moves: u64,
     pub seconds: u64,
     pub mark: u64,
-}
-
-// The answer of opening a follower, and of a report: the audit's questions and 20 to 22.
-#[derive(Clone, Copy)]
-pub enum FollowAnswer {
-    Done,
-    Refused {
-        question: u8,
-        place: u32,
-        excess: i64,
-    },
-}
-
-// The answer of writing a file to a lent output: its length, or a question; in set form questions 1 to 11 and 23.
-#[derive(Clone, Copy)]
-pub enum WriteAnswer {
-    Written { length: u32 },
-    Refused { question: u8, place: u32 },
 }

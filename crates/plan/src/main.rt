@@ -4,25 +4,23 @@
 #![tactic(auto)]
 
 ghost use Rattle.std.specs.Prelude.{◌≡◌, ℕ, ◌≤◌, List, ◌++◌, length, take};
-ghost use Rattle.model.specs.Buffers.{Holds, ReadOf};
 ghost use Rattle.model.specs.Lines.{codes};
-ghost use Rattle.plan.specs.Names.{name_most, Named, same_name, clashing, takes, clears, Shows};
+ghost use Rattle.plan.specs.declared.TheConstants.{PART};
+ghost use Rattle.plan.specs.Names.{name_most, Named, clashing, takes, clears, Shows};
 
 use model::{Kind, MAX_STATES, NO_PICK, PLAN_HOLDS};
 use printing::messages::complain;
-use printing::table_files::{
-    PICK_BYTES, PICKS_ROOM, VALUE_BYTES, VALUES_ROOM, put_picks, put_values,
-};
+use printing::table_files::{Entry, PICKS_ROOM, VALUES_ROOM, put_table};
 use programs::checked::states_in;
 use programs::files::{
-    NAME, are_names, arg_count, argument, fail, open_named, path_of, read_whole,
+    NAME, Program, Told, are_names, arg_count, argument, open_named, path_of, read_whole,
 };
-use programs::{PAGE, front};
+use programs::{PAGE, Planned};
 use std::fs::{OpenFile, OpenOptions};
-use std::io::{Error, ErrorKind, Read, Seek, Write};
+use std::io::{ErrorKind, Read, Seek, Write};
+use std::marker::Model;
 use std::rt::{Env, Files};
 use std::{fs, io};
-use writing::text::put;
 
 // One byte more than any table has: a value has more of them than a pick.
 const LOOK: usize = VALUES_ROOM + 1;
@@ -43,63 +41,35 @@ fn remove<F: Files>(rt: &F, name: &[u8]) {
     }
 }
 
-// What stands under a name: nothing, a file of so many bytes, or anything else, as a folder, a pipe or a file that may not be written.
-#[derive(Clone, Copy)]
-enum There {
-    Nothing,
-    Bytes(usize),
-    Other,
+// Gives a file another name.
+fn rename<F: Files>(rt: &F, from: &[u8], to: &[u8]) -> io::Result<()> {
+    fs::rename(rt, path_of(from)?, path_of(to)?)
 }
 
-// What was found under a name. Where it is anything else than nothing or a file, why it cannot be looked into.
-#[derive(Clone, Copy)]
-struct Found {
-    there: There,
-    failed: Option<Error>,
-}
+// What stands under a name: nothing, or a file of so many bytes. An error where it is anything else, as a folder, a pipe or a file that
+// may not be written, which says why it cannot be looked into.
+type There = io::Result<Option<usize>>;
 
-// A file of which `read` bytes are in `bytes`, as many as there is room for: that shows whether it is just as long as a table, since any
-// table has fewer.
-fn seen(bytes: &[u8; LOOK], read: usize) -> There
-    ensures { (f : List ℕ) → ReadOf f bytes.now read → Shows f result }
+// A file of which as much was read as there is room for: that shows whether it is just as long as a table, since any table has fewer bytes.
+fn seen(got: &[u8]) -> There
+    ensures { (f : List ℕ) → take LOOK f ≡ got.now → Shows f result }
 {
-    let got = front(bytes, read);
-    There::Bytes(got.len())
-}
-
-// Anything else than nothing or a file, and why it cannot be looked into.
-fn other(error: Error) -> Found {
-    Found {
-        there: There::Other,
-        failed: Some(error),
-    }
+    Ok(Some(got.len()))
 }
 
 // Looks into a file that was opened, as far as tables go: a longer file has `LOOK` bytes. A pipe, which has no position, is no such file.
-fn look_into<F: Read + Seek>(file: &mut F) -> Found {
-    if let Err(error) = file.stream_position() {
-        return other(error);
-    }
+fn look_into<F: Read + Seek>(file: &mut F) -> There {
+    file.stream_position()?;
     let mut bytes = [0u8; LOOK];
-    let got = read_whole(file, &mut bytes);
-    match got.failed {
-        Some(error) => other(error),
-        None => Found {
-            there: seen(&bytes, got.length),
-            failed: None,
-        },
-    }
+    seen(read_whole(file, &mut bytes)?)
 }
 
 // Looks at a name. A name of no bytes, which no file can have, is among those where anything else stands.
-fn look<F: Files>(rt: &F, name: &[u8]) -> Found {
+fn look<F: Files>(rt: &F, name: &[u8]) -> There {
     match open_named(rt, OpenOptions::new().read(true).write(true), name) {
         Ok(mut file) => look_into(&mut file),
-        Err(error) if error.kind() == ErrorKind::NotFound && 0 < name.len() => Found {
-            there: There::Nothing,
-            failed: None,
-        },
-        Err(error) => other(error),
+        Err(error) if error.kind() == ErrorKind::NotFound && !name.is_empty() => Ok(None),
+        Err(error) => Err(error),
     }
 }
 
@@ -109,9 +79,9 @@ fn may_take(there: There, bytes: usize) -> bool
     ensures { result ≡ takes there bytes }
 {
     match there {
-        There::Nothing => true,
-        There::Bytes(n) => n == bytes,
-        There::Other => false,
+        Ok(None) => true,
+        Ok(Some(n)) => n == bytes,
+        Err(_) => false,
     }
 }
 
@@ -120,18 +90,23 @@ fn may_clear(there: There, bytes: usize) -> bool
     ensures { result ≡ clears there bytes }
 {
     match there {
-        There::Nothing => true,
-        There::Bytes(n) => n == 0 || n == bytes,
-        There::Other => false,
+        Ok(None) => true,
+        Ok(Some(n)) => n == 0 || n == bytes,
+        Err(_) => false,
     }
 }
 
 // Says why a table of so many bytes may not take a name.
-fn refuse<W: Write>(messages: &mut W, name: &[u8], found: Found, bytes: usize) {
-    if let Some(error) = found.failed {
-        fail(messages, b"plan", name, &error);
-        return;
+fn refuse<R, W: Write>(
+    program: &mut Program<R, W>,
+    name: &[u8],
+    there: There,
+    bytes: usize,
+) -> Result<(), Told> {
+    if let Err(error) = there {
+        return program.told(name, Err(error));
     }
+    let messages = &mut program.messages;
     complain(messages, b"plan: ");
     complain(messages, name);
     complain(
@@ -140,346 +115,313 @@ fn refuse<W: Write>(messages: &mut W, name: &[u8], found: Found, bytes: usize) {
     );
     let _ = write!(messages, "{bytes}");
     complain(messages, b" bytes: it is not replaced\n");
+    Err(Told)
 }
 
-// Whether a table of so many bytes can take this name and its part file; where not, that is said.
-fn is_free<F: Files, W: Write>(
-    rt: &F,
-    messages: &mut W,
-    name: &[u8],
-    part: &[u8],
-    bytes: usize,
-) -> bool {
-    let found = look(rt, name);
-    if !may_take(found.there, bytes) {
-        refuse(messages, name, found, bytes);
-        return false;
-    }
-    let begun = look(rt, part);
-    if !may_clear(begun.there, bytes) {
-        refuse(messages, part, begun, bytes);
-        return false;
-    }
-    true
+// The name of a part file.
+#[derive(Drop)]
+struct PartName {
+    bytes: [u8; PART],
+    len: usize,
 }
 
-// Writes a table to its part file, which must be new. Where that fails it is said, and no part file is left.
-fn write_part<F: Files, W: Write>(
-    rt: &F,
-    messages: &mut W,
-    name: &[u8],
-    part: &[u8],
-    bytes: &[u8],
-) -> bool {
-    let file = match open_named(rt, OpenOptions::new().write(true).create_new(true), part) {
-        Ok(file) => file,
-        Err(error) => {
-            fail(messages, b"plan", name, &error);
-            return false;
-        }
-    };
-    if let Err(error) = write_closing(file, bytes) {
-        fail(messages, b"plan", name, &error);
-        remove(rt, part);
-        return false;
-    }
-    true
+impl Model for PartName {
+    ghost Value = { List ℕ };
+
+    ghost view = { λ part. take part.len part.bytes };
+
+    ghost invariant = { λ part. part.len ≤ PART };
 }
 
-// Gives a file another name.
-fn rename<F: Files>(rt: &F, from: &[u8], to: &[u8]) -> io::Result<()> {
-    let old = path_of(from)?;
-    let new = path_of(to)?;
-    fs::rename(rt, old, new)
-}
-
-// Gives a part file its name. Where that fails it is said, and no part file is left.
-fn place<F: Files, W: Write>(rt: &F, messages: &mut W, name: &[u8], part: &[u8]) -> bool {
-    match rename(rt, part, name) {
-        Ok(()) => true,
-        Err(error) => {
-            fail(messages, b"plan", name, &error);
-            remove(rt, part);
-            false
-        }
+impl PartName {
+    fn as_slice(&self) -> &[u8]
+        ensures { result.now ≡ self.now }
+    {
+        &self.bytes[..self.len]
     }
 }
 
 // The name of a part file: the table's name and `.part`.
-fn part_of(name: &[u8], part: &mut [u8; PART]) -> usize
+fn part_of(name: &[u8]) -> PartName
     requires { length name.now ≤ name_most }
-    ensures holds { Holds part.old part.new result (name.now ++ codes ".part") }
-    ensures whole { take result part.new ≡ name.now ++ codes ".part" }
+    ensures { result ≡ name.now ++ codes ".part" }
 {
-    let n = put(part, 0, name);
-    put(part, n, b".part")
+    let mut bytes = [0u8; PART];
+    let n = name.len();
+    let len = n + 5;
+    bytes[..n].copy_from_slice(name);
+    bytes[n..len].copy_from_slice(b".part");
+    PartName { bytes, len }
 }
 
-// Whether two names are the same.
-fn are_equal(a: &[u8], b: &[u8]) -> bool
-    ensures { result ≡ same_name a.now b.now }
-{
-    if a.len() != b.len() {
-        return false;
-    }
-    let mut i = 0;
-    while i < a.len() && i < b.len() {
-        if a[i] != b[i] {
-            return false;
+// A table's file: its name, that of its part file, which it has until it is whole, and how many bytes the table has.
+#[derive(Clone, Copy)]
+struct Target<'a> {
+    name: &'a [u8],
+    part: &'a [u8],
+    bytes: usize,
+}
+
+impl<'a> Target<'a> {
+    fn new(name: &'a [u8], part: &'a PartName, bytes: usize) -> Target<'a> {
+        Target {
+            name,
+            part: part.as_slice(),
+            bytes,
         }
-        i += 1;
     }
-    true
+
+    // Whether one of two tables would land on the other, or on the other's part file.
+    fn clashes(self, other: Target) -> bool
+        ensures { result ≡ clashing self.entry.name.now self.entry.part.now other.entry.name.now other.entry.part.now }
+    {
+        self.name == other.name || self.name == other.part || self.part == other.name
+    }
+
+    // Sees to it that the table can take this name and its part file; where not, that is said.
+    fn is_free<F: Files, W: Write>(self, program: &mut Program<F, W>) -> Result<(), Told> {
+        let there = look(program.rt, self.name);
+        if !may_take(there, self.bytes) {
+            return refuse(program, self.name, there, self.bytes);
+        }
+        let there = look(program.rt, self.part);
+        if !may_clear(there, self.bytes) {
+            return refuse(program, self.part, there, self.bytes);
+        }
+        Ok(())
+    }
+
+    // Writes the table to its part file, which must be new. Where that fails it is said, and no part file is left.
+    fn write_part<F: Files, W: Write>(
+        self,
+        program: &mut Program<F, W>,
+        bytes: &[u8],
+    ) -> Result<(), Told> {
+        let rt = program.rt;
+        let opened = open_named(
+            rt,
+            OpenOptions::new().write(true).create_new(true),
+            self.part,
+        );
+        let file = program.told(self.name, opened)?;
+        let written = program.told(self.name, write_closing(file, bytes));
+        written.inspect_err(|_| self.remove_part(rt))
+    }
+
+    // Gives the part file its name. Where that fails it is said, and no part file is left.
+    fn place<F: Files, W: Write>(self, program: &mut Program<F, W>) -> Result<(), Told> {
+        let rt = program.rt;
+        let placed = program.told(self.name, rename(rt, self.part, self.name));
+        placed.inspect_err(|_| self.remove_part(rt))
+    }
+
+    fn remove_part<F: Files>(self, rt: &F) {
+        remove(rt, self.part);
+    }
 }
 
-// Whether one of two tables would land on the other, or on the other's part file.
-fn do_clash(name: &[u8], part: &[u8], name2: &[u8], part2: &[u8]) -> bool
-    ensures { result ≡ clashing name.now part.now name2.now part2.now }
-{
-    if are_equal(name, name2) {
-        return true;
-    }
-    if are_equal(name, part2) {
-        return true;
-    }
-    are_equal(part, name2)
+// Where the two tables of a run go.
+#[derive(Clone, Copy)]
+struct Targets<'a> {
+    values: Target<'a>,
+    picks: Target<'a>,
 }
 
-// Whether both names can take their tables while the part files are there, which are empty: neither is a part file in another spelling.
-fn are_apart<F: Files>(rt: &F, name: &[u8], bytes: usize, name2: &[u8], bytes2: usize) -> bool {
-    let found = look(rt, name);
-    if !may_take(found.there, bytes) {
-        return false;
+impl Targets<'_> {
+    // Whether both names can take their tables while the part files are there, which are empty: neither is a part file in another spelling.
+    fn are_apart<F: Files>(self, rt: &F) -> bool {
+        may_take(look(rt, self.values.name), self.values.bytes)
+            && may_take(look(rt, self.picks.name), self.picks.bytes)
     }
-    let found2 = look(rt, name2);
-    may_take(found2.there, bytes2)
+
+    // Sees to it that both part files can be made, which is tried with empty ones; where one cannot, that is said. Those of an earlier run
+    // are removed.
+    fn can_be_made<F: Files, W: Write>(self, program: &mut Program<F, W>) -> Result<(), Told> {
+        let rt = program.rt;
+        self.remove_parts(rt);
+        self.values.write_part(program, b"")?;
+        let made = self.picks.write_part(program, b"");
+        made.inspect_err(|_| self.values.remove_part(rt))?;
+        let is_apart = self.are_apart(rt);
+        self.remove_parts(rt);
+        if !is_apart {
+            return need_two(program);
+        }
+        Ok(())
+    }
+
+    // Sees to it that two names can take these tables; where not, that is said, and no file is lost but part files of an earlier run.
+    fn are_ready<F: Files, W: Write>(self, program: &mut Program<F, W>) -> Result<(), Told> {
+        if self.values.clashes(self.picks) {
+            return need_two(program);
+        }
+        self.values.is_free(program)?;
+        self.picks.is_free(program)?;
+        self.can_be_made(program)
+    }
+
+    // Writes both part files, and gives them their names once both are whole. The names are looked at once more, since a run may take long.
+    fn write<F: Files, W: Write>(
+        self,
+        program: &mut Program<F, W>,
+        values: &[u8],
+        picks: &[u8],
+    ) -> Result<(), Told> {
+        let rt = program.rt;
+        self.are_ready(program)?;
+        self.values.write_part(program, values)?;
+        let written = self.picks.write_part(program, picks);
+        written.inspect_err(|_| self.values.remove_part(rt))?;
+        let placed = self.values.place(program);
+        placed.inspect_err(|_| self.picks.remove_part(rt))?;
+        self.picks.place(program)
+    }
+
+    fn remove_parts<F: Files>(self, rt: &F) {
+        self.values.remove_part(rt);
+        self.picks.remove_part(rt);
+    }
 }
 
-// Whether both part files can be made, which is tried with empty ones; where one cannot, that is said. Those of an earlier run are removed.
-fn can_be_made<F: Files, W: Write>(
-    rt: &F,
-    messages: &mut W,
-    name: &[u8],
-    part: &[u8],
-    bytes: usize,
-    name2: &[u8],
-    part2: &[u8],
-    bytes2: usize,
-) -> bool {
-    remove(rt, part);
-    remove(rt, part2);
-    if !write_part(rt, messages, name, part, b"") {
-        return false;
-    }
-    if !write_part(rt, messages, name2, part2, b"") {
-        remove(rt, part);
-        return false;
-    }
-    let is_apart = are_apart(rt, name, bytes, name2, bytes2);
-    remove(rt, part);
-    remove(rt, part2);
-    if !is_apart {
-        complain(messages, b"plan: VALUES and PICKS need two names\n");
-    }
-    is_apart
+// Says that the two names would be those of one file.
+fn need_two<R, W: Write>(program: &mut Program<R, W>) -> Result<(), Told> {
+    complain(
+        &mut program.messages,
+        b"plan: VALUES and PICKS need two names\n",
+    );
+    Err(Told)
 }
 
-// Whether two names can take tables of so many bytes; where not, that is said, and no file is lost but part files of an earlier run.
-fn are_ready<F: Files, W: Write>(
-    rt: &F,
-    messages: &mut W,
-    name: &[u8],
-    part: &[u8],
-    bytes: usize,
-    name2: &[u8],
-    part2: &[u8],
-    bytes2: usize,
-) -> bool {
-    if do_clash(name, part, name2, part2) {
-        complain(messages, b"plan: VALUES and PICKS need two names\n");
-        return false;
-    }
-    if !is_free(rt, messages, name, part, bytes) {
-        return false;
-    }
-    if !is_free(rt, messages, name2, part2, bytes2) {
-        return false;
-    }
-    can_be_made(rt, messages, name, part, bytes, name2, part2, bytes2)
+// The two names that a run is given, for its values and for its picks.
+#[derive(Clone, Copy)]
+struct Names<'a> {
+    values: &'a [u8],
+    picks: &'a [u8],
+    ghost named: { Named values.now picks.now },
 }
 
-// Whether two names can take the tables of a file, its values and its picks. A file that is refused has none.
-fn can_save<F: Files, W: Write>(
-    rt: &F,
-    messages: &mut W,
-    file: &[u8],
-    name: &[u8],
-    name2: &[u8],
-) -> bool
-    requires { Named name.now name2.now }
-{
-    let states = states_in(file);
-    if states == 0 {
-        return true;
+impl Names<'_> {
+    // Sees to it that the names can take the tables of a file; where not, that is said. A file that is refused has none.
+    fn can_save<F: Files, W: Write>(
+        self,
+        program: &mut Program<F, W>,
+        file: &[u8],
+    ) -> Result<(), Told> {
+        let states = states_in(file);
+        if states == 0 {
+            return Ok(());
+        }
+        let value_part = part_of(self.values);
+        let pick_part = part_of(self.picks);
+        let targets = Targets {
+            values: Target::new(self.values, &value_part, u32::BYTES * states),
+            picks: Target::new(self.picks, &pick_part, u16::BYTES * states),
+        };
+        targets.are_ready(program)
     }
-    let mut first = [0u8; PART];
-    let i = part_of(name, &mut first);
-    let mut second = [0u8; PART];
-    let j = part_of(name2, &mut second);
-    are_ready(
-        rt,
-        messages,
-        name,
-        &first[..i],
-        VALUE_BYTES * states,
-        name2,
-        &second[..j],
-        PICK_BYTES * states,
-    )
+
+    // Writes the tables of a run.
+    fn save<F: Files, W: Write>(
+        self,
+        program: &mut Program<F, W>,
+        values: &[u32],
+        picks: &[u16],
+    ) -> Result<(), Told> {
+        let mut value_bytes = [0u8; VALUES_ROOM];
+        let n = put_table(values, &mut value_bytes);
+        let mut pick_bytes = [0u8; PICKS_ROOM];
+        let m = put_table(picks, &mut pick_bytes);
+        let value_part = part_of(self.values);
+        let pick_part = part_of(self.picks);
+        let targets = Targets {
+            values: Target::new(self.values, &value_part, n),
+            picks: Target::new(self.picks, &pick_part, m),
+        };
+        targets.write(program, &value_bytes[..n], &pick_bytes[..m])
+    }
 }
 
-// Writes both part files, and gives them their names once both are whole. The names are looked at once more, since a run may take long.
-fn save<F: Files, W: Write>(
-    rt: &F,
-    messages: &mut W,
-    name: &[u8],
-    values: &[u32],
-    name2: &[u8],
-    picks: &[u16],
-)
-    requires { Named name.now name2.now }
-{
-    let mut first = [0u8; PART];
-    let i = part_of(name, &mut first);
-    let mut second = [0u8; PART];
-    let j = part_of(name2, &mut second);
-    let mut value_bytes = [0u8; VALUES_ROOM];
-    let n = put_values(values, &mut value_bytes);
-    let mut pick_bytes = [0u8; PICKS_ROOM];
-    let m = put_picks(picks, &mut pick_bytes);
-    if !are_ready(rt, messages, name, &first[..i], n, name2, &second[..j], m) {
-        return;
-    }
-    if !write_part(rt, messages, name, &first[..i], &value_bytes[..n]) {
-        return;
-    }
-    if !write_part(rt, messages, name2, &second[..j], &pick_bytes[..m]) {
-        remove(rt, &first[..i]);
-        return;
-    }
-    if !place(rt, messages, name, &first[..i]) {
-        remove(rt, &second[..j]);
-        return;
-    }
-    place(rt, messages, name2, &second[..j]);
-}
-
-// Plans the input by a run of some kind, and saves its values and picks under two names. One byte more than `plan` holds is read, which is
-// enough to refuse the input (`Plans`).
+// Plans the input by a run of some kind, and saves its values and picks under two names where there are any. One byte more than `plan` holds
+// is read, which is enough to refuse the input (`Plans`).
 fn plan_input<R: Files + Input + Print, W: Write>(
-    rt: &R,
-    messages: &mut W,
+    program: &mut Program<R, W>,
     kind: Kind,
-    is_saving: bool,
-    name: &[u8],
-    name2: &[u8],
-)
-    requires { Named name.now name2.now }
-{
+    names: Option<Names>,
+) -> Result<(), Told> {
     let mut page = [0u8; PAGE];
-    let got = read_whole(&mut rt.reader(), &mut page);
-    if let Some(error) = got.failed {
-        fail(messages, b"plan", b"standard input", &error);
-        return;
-    }
-    let n = got.length;
-    if is_saving && n <= PLAN_HOLDS && !can_save(rt, messages, &page[..n], name, name2) {
-        return;
+    let got = read_whole(&mut program.rt.reader(), &mut page);
+    let input = program.told(b"standard input", got)?;
+    let read = input.len();
+    if let Some(names) = names
+        && read <= PLAN_HOLDS
+    {
+        names.can_save(program, input)?;
     }
     let mut values = [0u32; MAX_STATES];
     let mut picks = [NO_PICK; MAX_STATES];
-    let planned = programs::plan(kind, &mut page, n, &mut values, &mut picks);
-    let length = planned.length;
-    let states = planned.states;
-    if let Err(error) = rt.write_all(&page[..length]) {
-        fail(messages, b"plan", b"standard output", &error);
+    let Planned { length, states } = programs::plan(kind, &mut page, read, &mut values, &mut picks);
+    let printed = program.rt.write_all(&page[..length]);
+    let _ = program.told(b"standard output", printed);
+    if let Some(names) = names
+        && states != 0
+    {
+        names.save(program, &values[..states], &picks[..states])?;
     }
-    if is_saving && 0 < states {
-        save(
-            rt,
-            messages,
-            name,
-            &values[..states],
-            name2,
-            &picks[..states],
-        );
-    }
+    Ok(())
 }
 
 // Plans with the two names that were given, arguments `i` and `j`. They are looked at before the run.
 fn plan_named<R: Env + Files + Input + Print, W: Write>(
-    rt: &R,
-    messages: &mut W,
+    program: &mut Program<R, W>,
     kind: Kind,
     i: usize,
     j: usize,
-) {
+) -> Result<(), Told> {
+    let rt = program.rt;
     let mut first = [0u8; NAME];
-    let n = match argument(rt, i, &mut first) {
-        Ok(n) => n,
-        Err(error) => {
-            fail(messages, b"plan", b"VALUES", &error);
-            return;
-        }
-    };
+    let values = program.told(b"VALUES", argument(rt, i, &mut first))?;
     let mut second = [0u8; NAME];
-    let m = match argument(rt, j, &mut second) {
-        Ok(m) => m,
-        Err(error) => {
-            fail(messages, b"plan", b"PICKS", &error);
-            return;
-        }
-    };
-    plan_input(rt, messages, kind, true, &first[..n], &second[..m]);
+    let picks = program.told(b"PICKS", argument(rt, j, &mut second))?;
+    plan_input(program, kind, Some(Names { values, picks }))
 }
 
 // Plans by a run of some kind. What it is given besides, from argument `at` on, is nothing or two names.
 fn plan_by<R: Env + Files + Input + Print, W: Write>(
-    rt: &R,
-    messages: &mut W,
+    program: &mut Program<R, W>,
     kind: Kind,
     at: usize,
     count: usize,
-) {
+) -> Result<(), Told> {
     if count <= at {
-        plan_input(rt, messages, kind, false, b"", b"");
-        return;
+        return plan_input(program, kind, None);
     }
-    if count - at == 2 && are_names(rt, at, count) {
-        plan_named(rt, messages, kind, at, at + 1);
-        return;
+    if count - at == 2 && are_names(program.rt, at, count) {
+        return plan_named(program, kind, at, at + 1);
     }
     complain(
-        messages,
+        &mut program.messages,
         b"plan: give no names, or two: VALUES PICKS, after --finish where the run shall finish\n",
     );
+    Err(Told)
 }
 
 // Whether the first argument is `--finish`.
 fn is_finishing<E: Env>(rt: &E) -> bool {
     let mut word = [0u8; 8];
-    match argument(rt, 1, &mut word) {
-        Ok(n) => are_equal(&word[..n], b"--finish"),
-        Err(_) => false,
-    }
+    matches!(argument(rt, 1, &mut word), Ok(b"--finish"))
 }
 
 fn main(rt: HostRuntime) {
-    let mut messages = rt.stderr();
     let count = arg_count(&rt);
-    if is_finishing(&rt) {
-        plan_by(&rt, &mut messages, Kind::Finishing, 2, count);
+    let (kind, at) = if is_finishing(&rt) {
+        (Kind::Finishing, 2)
     } else {
-        plan_by(&rt, &mut messages, Kind::Plain, 1, count);
-    }
+        (Kind::Plain, 1)
+    };
+    let mut program = Program {
+        name: b"plan",
+        rt: &rt,
+        messages: rt.stderr(),
+    };
+    let _ = plan_by(&mut program, kind, at, count);
 }

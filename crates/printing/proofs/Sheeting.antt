@@ -1,23 +1,11 @@
--- Laws of the sheets: a line is put in parts, lines by rising rate, and sheets one after the other.
+-- Laws of the sheets: lines stand by rising rate, and sheets one after the other.
 use mathlib.Core.Path.{◌≡◌, refl}
 use Prim.Native.Nat.{ℕ, ◌+◌}
 use native.Mathlib.Numerals.{add-one}
 use mathlib.Core.List.{List, [], ◌++◌}
-use lib.ListN.{get_or, take}
-use Rattle.model.specs.Buffers.{Holds}
+use lib.ListN.{get_or}
 use Rattle.model.specs.Limits.{min_rate}
-use Rattle.model.specs.Lines.{codes, decimal, blank_number}
 use Rattle.model.specs.Sheets.{rate_line, rate_lines, sheet_text, sheets_to}
-use Rattle.writing.specs.Putting.{after}
-
-pub rate_put
-    : {out b c d : List ℕ} (at : ℕ) {i j n : ℕ} (rate seconds : ℕ) → Holds out b i (take at out ++ decimal rate)
-    → Holds b c j (take i b ++ blank_number seconds) → Holds c d n (take j c ++ codes "\n")
-    → Holds out d n (take at out ++ rate_line rate seconds)
-unfolding rate_line
-rate_put at rate seconds first second end =
-    after at (decimal rate ++ blank_number seconds) (codes "\n")
-    (after at (decimal rate) (blank_number seconds) first second) end
 
 -- the lines of no rates, and of one more
 module _ (seconds : ℕ → ℕ) where

@@ -1,3 +1,4 @@
 -- What the contracts of `printing` cite.
 pub mod Texts
 pub mod Told
+pub mod Entries

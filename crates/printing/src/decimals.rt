@@ -1,48 +1,33 @@
-// Putting numbers in decimal, as `writing` puts text.
-ghost use Rattle.std.specs.Prelude.{◌≡◌, ◌++◌, ◌≤◌, nat_abs, length, take};
-ghost use Rattle.model.specs.Buffers.{Holds};
+// Putting numbers in decimal.
 ghost use Rattle.model.specs.Lines.{decimal, blank_number, blank_signed};
+ghost use Rattle.writing.specs.Pages.{Puts};
 
-use writing::text::put;
+use itoa::Buffer;
+use writing::page::Page;
 
 // Puts a number in decimal.
-pub fn put_number(out: &mut [u8], at: usize, n: u64) -> usize
-    requires { at ≤ length out.old }
-    ensures { Holds out.old out.new result (take at out.old ++ decimal n) }
+pub fn put_number(page: &mut Page<'_>, n: u64)
+    ensures { Puts page.old page.new (decimal n) }
 {
-    let mut digits = [0u8; 20];
-    let k = io::decimal(n, &mut digits);
-    put(out, at, &digits[..k])
+    page.put(Buffer::new().format(n).as_bytes());
 }
 
 // Puts a blank and a number.
-pub fn put_next(out: &mut [u8], at: usize, n: u64) -> usize
-    requires { at ≤ length out.old }
-    ensures { Holds out.old out.new result (take at out.old ++ blank_number n) }
+pub fn put_next(page: &mut Page<'_>, n: u64)
+    ensures { Puts page.old page.new (blank_number n) }
 {
-    let to = put(out, at, b" ");
-    put_number(out, to, n)
-}
-
-// How far a number lies from 0.
-fn distance(x: i64) -> u64
-    ensures { result ≡ nat_abs x }
-{
-    if x < 0 {
-        return (-(x + 1)) as u64 + 1;
-    }
-    x as u64
+    page.put(b" ");
+    put_number(page, n);
 }
 
 // Puts a blank and a signed number: a minus sign before the digits where it is below 0.
-pub fn put_signed(out: &mut [u8], at: usize, x: i64) -> usize
-    requires { at ≤ length out.old }
-    ensures { Holds out.old out.new result (take at out.old ++ blank_signed x) }
+pub fn put_signed(page: &mut Page<'_>, x: i64)
+    ensures { Puts page.old page.new (blank_signed x) }
 {
-    let n = distance(x);
     if x < 0 {
-        let to = put(out, at, b" -");
-        return put_number(out, to, n);
+        page.put(b" -");
+        put_number(page, x.unsigned_abs());
+        return;
     }
-    put_next(out, at, n)
+    put_next(page, x.unsigned_abs());
 }

@@ -1,232 +1,202 @@
 // The lines of `plan` and `audit`.
-ghost use Rattle.std.specs.Prelude.{◌++◌, ◌≤◌, ◌<◌, eqb, length, take, get_or};
-ghost use Rattle.model.specs.Answers.{answer_of, audited_of};
+ghost use Rattle.std.specs.Prelude.{◌++◌, ◌+◌, ◌*◌, ◌≤◌, ◌<◌, eqb, length, get_or};
+ghost use Rattle.model.specs.Answers.{answer_of, audited_of, number_of};
+ghost use Rattle.model.specs.Audit.{refused};
 ghost use Rattle.model.specs.Limits.{give_up};
-ghost use Rattle.model.specs.Lines.{codes, blank_number, blank_signed, pick_on};
-ghost use Rattle.model.specs.Lines.{answer_line, audit_line, line_on, state_line, state_lines, run_text};
-ghost use Rattle.model.specs.Buffers.{Holds, line_most};
+ghost use Rattle.model.specs.Lines.{codes, pick_on};
+ghost use Rattle.model.specs.Lines.{answer_line, audit_line, state_line, state_lines, run_text};
+ghost use Rattle.model.specs.Buffers.{Holds, line_most, state_most};
 ghost use Rattle.model.specs.Value.{by_state};
-ghost use Rattle.printing.specs.Texts.{Brief, Marks, WalkWithin};
+ghost use Rattle.printing.specs.Texts.{Brief, Marked, WalkWithin, numbered};
+ghost use Rattle.writing.specs.Pages.{Puts};
 
 use crate::decimals::{put_next, put_number, put_signed};
-use model::{AuditAnswer, GIVE_UP, MAX_STATES, SolveAnswer};
-use writing::text::put;
+use model::{AuditRefusal, Ended, MAX_STATES, Refusal};
+use reading::picks::Pick;
+use writing::page::Page;
 
-// Puts a word and two numbers at the front of `out`.
-fn put_counts(out: &mut [u8], word: &[u8], a: u64, b: u64) -> usize
-    ensures { Holds out.old out.new result (word.now ++ blank_number a ++ blank_number b) }
+// Puts a word and numbers, each after a blank.
+fn put_numbers(page: &mut Page<'_>, word: &[u8], numbers: &[u64])
+    ensures puts { Puts page.old page.new (numbered word.now numbers.now) }
+    ensures brief { length (numbered word.now numbers.now) ≤ length word.now + 21 * length numbers.now }
 {
-    let i = put(out, 0, word);
-    let j = put_next(out, i, a);
-    put_next(out, j, b)
+    page.put(word);
+    for &n in numbers {
+        put_next(page, n);
+    }
 }
 
-// Puts the line of a word and two numbers at the front of `out`.
-fn put_two(out: &mut [u8], word: &[u8], a: u64, b: u64) -> usize
-    ensures { Holds
-        out.old out.new result (word.now ++ blank_number a ++ blank_number b ++ codes "\n") }
+// Puts the line of a word and numbers.
+fn put_line(page: &mut Page<'_>, word: &[u8], numbers: &[u64])
+    ensures puts { Puts page.old page.new (numbered word.now numbers.now ++ codes "\n") }
+    ensures brief { length (numbered word.now numbers.now ++ codes "\n")
+        ≤ length word.now + 21 * length numbers.now + 1 }
 {
-    let i = put_counts(out, word, a, b);
-    put(out, i, b"\n")
-}
-
-// Puts the line of a word and three numbers at the front of `out`.
-fn put_three(out: &mut [u8], word: &[u8], a: u64, b: u64, c: u64) -> usize
-    ensures { Holds
-        out.old out.new result
-        (word.now ++ blank_number a ++ blank_number b ++ blank_number c ++ codes "\n") }
-{
-    let i = put_counts(out, word, a, b);
-    let j = put_next(out, i, c);
-    put(out, j, b"\n")
+    put_numbers(page, word, numbers);
+    page.put(b"\n");
 }
 
 // Puts the first line of `plan`: how the run ended, or the refusal.
-pub fn put_answer(out: &mut [u8], answer: SolveAnswer) -> usize
-    ensures holds { Holds out.old out.new result (answer_line (answer_of answer)) }
+fn put_answer(page: &mut Page<'_>, answer: Result<Ended, Refusal>)
+    ensures puts { Puts page.old page.new (answer_line (answer_of answer)) }
     ensures brief { length (answer_line (answer_of answer)) ≤ line_most }
 {
     match answer {
-        SolveAnswer::Solved { counts } => put_three(
-            out,
+        Ok(Ended::Solved(counts)) => put_line(
+            page,
             b"solved",
-            counts.rounds,
-            counts.evaluations,
-            counts.least as u64,
+            &[counts.rounds, counts.evaluations, counts.least.into()],
         ),
-        SolveAnswer::Spent { counts } => {
-            put_two(out, b"spent", counts.rounds, counts.evaluations)
+        Ok(Ended::Spent(counts)) => {
+            put_line(page, b"spent", &[counts.rounds, counts.evaluations])
         }
-        SolveAnswer::Refused { question, place } => {
-            put_two(out, b"refused", question as u64, place as u64)
+        Err(Refusal { question, place }) => {
+            put_line(page, b"refused", &[question.number().into(), place.into()])
         }
     }
+}
+
+// Puts the text of an answer with no states at the front of `out`: its line.
+pub fn answer_text(answer: Result<Ended, Refusal>, out: &mut [u8]) -> usize
+    ensures holds { Holds out.old out.new result (answer_line (answer_of answer)) }
+    ensures brief { length (answer_line (answer_of answer)) ≤ line_most }
+{
+    let mut page = Page::new(out);
+    put_answer(&mut page, answer);
+    page.len()
 }
 
 // Puts a blank and a row, or `give`.
-fn put_row(out: &mut [u8], at: usize, pick: u16) -> usize
-    requires { at ≤ length out.old }
-    ensures { Holds
-        out.old out.new result (take at out.old ++ pick_on (eqb pick give_up) pick) }
+fn put_row(page: &mut Page<'_>, pick: u16)
+    ensures { Puts page.old page.new (pick_on (eqb pick give_up) pick) }
 {
-    if pick == GIVE_UP {
-        return put(out, at, b" give");
+    match Pick::from(pick) {
+        Pick::GiveUp => page.put(b" give"),
+        Pick::Row(r) => put_next(page, r as u64),
     }
-    put_next(out, at, pick as u64)
+}
+
+// What a run left of its states: its tables, a remainder for each state, and its walk list.
+#[derive(Clone, Copy)]
+pub struct Run<'a> {
+    pub values: &'a [u32],
+    pub picks: &'a [u16],
+    pub remainders: &'a [u16],
+    pub walk: &'a [u16],
+    ghost within: { WalkWithin walk.now values.now picks.now remainders.now },
 }
 
 // Puts a state's line: its number, its value, its row or `give`, and the remainder.
-fn put_state(
-    out: &mut [u8],
-    at: usize,
-    state: usize,
-    value: u32,
-    pick: u16,
-    remainder: u16,
-) -> usize
-    requires { at ≤ length out.old }
-    ensures { Holds
-        out.old out.new result (take at out.old ++ state_line state value pick remainder) }
+fn put_state(page: &mut Page<'_>, run: Run<'_>, state: usize)
+    requires { state < length run.walk.now }
+    ensures puts { Puts
+        page.old page.new
+        (state_line
+        state (get_or run.entry.values.now state 0) (get_or run.entry.picks.now state 0)
+        (get_or run.entry.remainders.now state 0)) }
+    ensures brief { length
+        (state_line
+        state (get_or run.entry.values.now state 0) (get_or run.entry.picks.now state 0)
+        (get_or run.entry.remainders.now state 0))
+        ≤ state_most }
 {
-    let a = put_number(out, at, state as u64);
-    let b = put_next(out, a, value as u64);
-    let c = put_row(out, b, pick);
-    let d = put_next(out, c, remainder as u64);
-    put(out, d, b"\n")
+    put_number(page, state as u64);
+    put_next(page, run.values[state].into());
+    put_row(page, run.picks[state]);
+    put_next(page, run.remainders[state].into());
+    page.put(b"\n");
 }
 
-// A mark for each state, 1 where it stands in a walk list.
-fn marks_of(walk: &[u16]) -> [u8; MAX_STATES]
-    ensures { Marks result walk.now }
+// A mark for each state, set where it stands in a walk list.
+fn marks_of(walk: &[u16]) -> [bool; MAX_STATES]
+    ensures { Marked result walk.now }
 {
-    let mut marks = [0u8; MAX_STATES];
-    let mut k = 0;
-    while k < walk.len() {
-        let s = walk[k] as usize;
-        k += 1;
+    let mut marks = [false; MAX_STATES];
+    for &s in walk {
+        let s = usize::from(s);
         if s < MAX_STATES {
-            marks[s] = 1;
+            marks[s] = true;
         }
     }
     marks
 }
 
-// Puts a state's line where it is marked.
-fn put_marked(
-    out: &mut [u8],
-    at: usize,
-    state: usize,
-    mark: u8,
-    values: &[u32],
-    picks: &[u16],
-    remainders: &[u16],
-) -> usize
-    requires { (at ≤ length out.old) × (state < length values.now) × (state < length picks.now)
-        × (state < length remainders.now) }
-    ensures { Holds
-        out.old out.new result
-        (take at out.old
-        ++ line_on
-        (eqb mark 1)
-        (state_line
-        state (get_or values.now state 0) (get_or picks.now state 0) (get_or remainders.now state 0))) }
-{
-    if mark == 1 {
-        return put_state(
-            out,
-            at,
-            state,
-            values[state],
-            picks[state],
-            remainders[state],
-        );
-    }
-    at
-}
-
 // Puts the lines of the listed states, by state number.
-fn put_states(
-    out: &mut [u8],
-    at: usize,
-    values: &[u32],
-    picks: &[u16],
-    remainders: &[u16],
-    walk: &[u16],
-) -> usize
-    requires { (at ≤ length out.old) × WalkWithin walk.now values.now picks.now remainders.now }
-    ensures { Holds
-        out.old out.new result
-        (take at out.old
-        ++ state_lines
-        values.now picks.now (by_state remainders.now) walk.now
-        (length walk.now)) }
+fn put_states(page: &mut Page<'_>, run: Run<'_>)
+    ensures puts { Puts
+        page.old page.new
+        (state_lines
+        run.entry.values.now run.entry.picks.now (by_state run.entry.remainders.now)
+        run.entry.walk.now (length run.entry.walk.now)) }
+    ensures brief { length
+        (state_lines
+        run.entry.values.now run.entry.picks.now (by_state run.entry.remainders.now)
+        run.entry.walk.now (length run.entry.walk.now))
+        ≤ state_most * length run.entry.walk.now }
 {
-    let marks = marks_of(walk);
-    let mut to = at;
-    let mut s = 0;
-    while s < walk.len() {
-        to = put_marked(out, to, s, marks[s], values, picks, remainders);
-        s += 1;
+    let marks = marks_of(run.walk);
+    for s in 0..run.walk.len() {
+        if marks[s] {
+            put_state(page, run, s);
+        }
     }
-    to
 }
 
-// Puts the text of a plan: the answer's line, then a line for each state of the walk list.
-pub fn plan_text(
-    answer: SolveAnswer,
-    values: &[u32],
-    picks: &[u16],
-    remainders: &[u16],
-    walk: &[u16],
-    out: &mut [u8],
-) -> usize
-    requires { WalkWithin walk.now values.now picks.now remainders.now }
+// Puts the text of a plan at the front of `out`: the answer's line, then a line for each state of the walk list.
+pub fn plan_text(answer: Result<Ended, Refusal>, run: Run<'_>, out: &mut [u8]) -> usize
     ensures holds { Holds
         out.old out.new result
         (run_text
-        (answer_of answer) values.now picks.now (by_state remainders.now) walk.now
-        (length walk.now)) }
+        (answer_of answer) run.entry.values.now run.entry.picks.now
+        (by_state run.entry.remainders.now) run.entry.walk.now
+        (length run.entry.walk.now)) }
     ensures brief { Brief
         (run_text
-        (answer_of answer) values.now picks.now (by_state remainders.now) walk.now
-        (length walk.now))
-        (length walk.now) }
+        (answer_of answer) run.entry.values.now run.entry.picks.now
+        (by_state run.entry.remainders.now) run.entry.walk.now
+        (length run.entry.walk.now))
+        (length run.entry.walk.now) }
 {
-    let first = put_answer(out, answer);
-    put_states(out, first, values, picks, remainders, walk)
-}
-
-// Puts the line of an accepted table.
-fn put_accepted(out: &mut [u8], least: u64) -> usize
-    ensures { Holds out.old out.new result (codes "accepted" ++ blank_number least ++ codes "\n") }
-{
-    let i = put(out, 0, b"accepted");
-    let j = put_next(out, i, least);
-    put(out, j, b"\n")
+    let mut page = Page::new(out);
+    put_answer(&mut page, answer);
+    put_states(&mut page, run);
+    page.len()
 }
 
 // Puts the line of an audit's refusal.
-fn put_refused(out: &mut [u8], question: u64, place: u64, excess: i64) -> usize
-    ensures { Holds
-        out.old out.new result
-        (codes "refused" ++ blank_number question ++ blank_number place ++ blank_signed excess ++ codes "\n") }
+fn put_refused(page: &mut Page<'_>, refusal: AuditRefusal)
+    ensures puts { Puts
+        page.old page.new
+        (audit_line (refused (number_of refusal.question) refusal.place refusal.excess)) }
+    ensures brief { length (audit_line (refused (number_of refusal.question) refusal.place refusal.excess))
+        ≤ line_most }
 {
-    let i = put_counts(out, b"refused", question, place);
-    let j = put_signed(out, i, excess);
-    put(out, j, b"\n")
+    put_numbers(
+        page,
+        b"refused",
+        &[refusal.question.number().into(), refusal.place.into()],
+    );
+    put_signed(page, refusal.excess);
+    page.put(b"\n");
 }
 
 // Puts the line of an audit.
-pub fn audit_text(answer: AuditAnswer, out: &mut [u8]) -> usize
-    ensures holds { Holds out.old out.new result (audit_line (audited_of answer)) }
+fn put_audit(page: &mut Page<'_>, answer: Result<u32, AuditRefusal>)
+    ensures puts { Puts page.old page.new (audit_line (audited_of answer)) }
     ensures brief { length (audit_line (audited_of answer)) ≤ line_most }
 {
     match answer {
-        AuditAnswer::Accepted { least } => put_accepted(out, least as u64),
-        AuditAnswer::Refused {
-            question,
-            place,
-            excess,
-        } => put_refused(out, question as u64, place as u64, excess),
+        Ok(least) => put_line(page, b"accepted", &[least.into()]),
+        Err(refusal) => put_refused(page, refusal),
     }
+}
+
+// Puts the line of an audit at the front of `out`.
+pub fn audit_text(answer: Result<u32, AuditRefusal>, out: &mut [u8]) -> usize
+    ensures holds { Holds out.old out.new result (audit_line (audited_of answer)) }
+    ensures brief { length (audit_line (audited_of answer)) ≤ line_most }
+{
+    let mut page = Page::new(out);
+    put_audit(&mut page, answer);
+    page.len()
 }

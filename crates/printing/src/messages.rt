@@ -25,10 +25,9 @@ fn complain_why<W: Write>(messages: &mut W, error: &Error) -> bool
     let _ = write!(page, "{error}");
     let n = REASON.min(page.position() as usize);
     let text = str::from_utf8(&page.get_ref()[..n]).unwrap_or("");
-    let words = match text.split_once(" (os error ") {
-        Some((words, _)) => words,
-        None => text,
-    };
+    let words = text
+        .split_once(" (os error ")
+        .map_or(text, |(words, _)| words);
     complain(messages, words.as_bytes())
 }
 

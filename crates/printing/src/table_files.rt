@@ -1,111 +1,139 @@
 // Table files: values as 32-bit and picks as 16-bit numbers, least byte first, one entry a state.
-ghost use Rattle.std.specs.Prelude.{◌≡◌, ◌++◌, ◌≤◌, length, take};
-ghost use Rattle.model.specs.Bytes.{number_bytes};
-ghost use Rattle.model.specs.Limits.{max_states};
-ghost use Rattle.model.specs.TableFiles.{bytes16, bytes32, entries16, entries32};
+ghost use Rattle.std.specs.Prelude.{◌≡◌, ℕ, List, ◌++◌, ◌+◌, ◌*◌, ◌≤◌, length, take};
+ghost use Rattle.model.specs.Bytes.{number_bytes, u16_at, u32_at};
+ghost use Rattle.model.specs.TableFiles.{entries16, entries32, table_bytes};
 ghost use Rattle.model.specs.Buffers.{Holds};
+ghost use Rattle.writing.specs.Pages.{Puts};
+ghost use Rattle.printing.specs.Entries.{EntryLaws, values_laws, picks_laws, values_room, picks_room, own, all};
 
 use model::MAX_STATES;
 use reading::numbers::{u16_at, u32_at};
-use writing::numbers::{put16, put32};
-use writing::text::put;
+use writing::page::Page;
 
-// The bytes of an entry.
-pub const VALUE_BYTES: usize = 4;
+// An entry of a table file: it is a number of so many bytes.
+pub trait Entry: Copy {
+    ghost BYTES: { ℕ };
 
-pub const PICK_BYTES: usize = 2;
+    ghost ROOM: { ℕ };
 
-// Room for the bytes of two tables of as many states as a file can have.
-pub const VALUES_ROOM: usize = VALUE_BYTES * MAX_STATES;
+    // The number of an entry, and those of a table.
+    ghost number: { Self → ℕ };
 
-pub const PICKS_ROOM: usize = PICK_BYTES * MAX_STATES;
+    ghost numbers: { List Self → List ℕ };
 
-// Puts a value, 4 bytes.
-fn put_value(out: &mut [u8], at: usize, x: u32) -> usize
-    requires { at ≤ length out.old }
-    ensures { Holds out.old out.new result (take at out.old ++ number_bytes 4 x) }
-{
-    let mut bytes = [0u8; VALUE_BYTES];
-    put32(&mut bytes, 0, x);
-    put(out, at, &bytes)
+    // The number that starts at a byte, and the entries of a file.
+    ghost number_at: { List ℕ → ℕ → ℕ };
+
+    ghost entries: { List ℕ → List ℕ };
+
+    // The bytes of an entry.
+    const BYTES: usize;
+
+    // Room for the bytes of a table of as many states as a file can have.
+    const ROOM: usize;
+
+    // Puts the bytes of an entry.
+    fn put(self, page: &mut Page<'_>)
+        ensures { Puts page.old page.new (number_bytes BYTES (number self)) };
+
+    // The entry whose bytes start at a place.
+    fn at(bytes: &[u8], place: usize) -> Self
+        requires { place + BYTES ≤ length bytes.now }
+        ensures { number result ≡ number_at bytes.now place };
+
+    ghost laws: { EntryLaws BYTES ROOM number numbers number_at entries };
 }
 
-// Puts a pick, 2 bytes.
-fn put_pick(out: &mut [u8], at: usize, x: u16) -> usize
-    requires { at ≤ length out.old }
-    ensures { Holds out.old out.new result (take at out.old ++ number_bytes 2 x) }
-{
-    let mut bytes = [0u8; PICK_BYTES];
-    put16(&mut bytes, 0, x as u32);
-    put(out, at, &bytes)
-}
+// A value, 4 bytes.
+impl Entry for u32 {
+    ghost BYTES = { 4 };
 
-// Puts the bytes of each entry at the front of `out`, and answers how many there are.
-fn put_each_value(values: &[u32], out: &mut [u8]) -> usize
-    ensures { Holds out.old out.new result (bytes32 values.now) }
-{
-    let mut to = 0;
-    let mut i = 0;
-    while i < values.len() {
-        to = put_value(out, to, values[i]);
-        i += 1;
+    ghost ROOM = { values_room };
+
+    ghost number = { own };
+
+    ghost numbers = { all };
+
+    ghost number_at = { u32_at };
+
+    ghost entries = { entries32 };
+
+    ghost laws = { values_laws };
+
+    const BYTES: usize = 4;
+
+    const ROOM: usize = 4 * MAX_STATES;
+
+    fn put(self, page: &mut Page<'_>) {
+        page.put(&u32::to_le_bytes(self));
     }
-    to
-}
 
-// Puts the bytes of a values table at the front of `out`, and answers how many there are. Nothing is cut of a table of as many states as a
-// file can have.
-pub fn put_values(values: &[u32], out: &mut [u8; VALUES_ROOM]) -> usize
-    ensures holds { Holds out.old out.new result (bytes32 values.now) }
-    ensures whole { length values.now ≤ max_states → take result out.new ≡ bytes32 values.now }
-{
-    put_each_value(values, out)
-}
-
-// Puts the bytes of each entry at the front of `out`, and answers how many there are.
-fn put_each_pick(picks: &[u16], out: &mut [u8]) -> usize
-    ensures { Holds out.old out.new result (bytes16 picks.now) }
-{
-    let mut to = 0;
-    let mut i = 0;
-    while i < picks.len() {
-        to = put_pick(out, to, picks[i]);
-        i += 1;
+    fn at(bytes: &[u8], place: usize) -> u32 {
+        u32_at(bytes, place)
     }
-    to
 }
 
-// Puts the bytes of a picks table at the front of `out`, and answers how many there are. Nothing is cut of a table of as many states as a
-// file can have.
-pub fn put_picks(picks: &[u16], out: &mut [u8; PICKS_ROOM]) -> usize
-    ensures holds { Holds out.old out.new result (bytes16 picks.now) }
-    ensures whole { length picks.now ≤ max_states → take result out.new ≡ bytes16 picks.now }
-{
-    put_each_pick(picks, out)
-}
+// A pick, 2 bytes.
+impl Entry for u16 {
+    ghost BYTES = { 2 };
 
-// Reads the entries of a values file into the front of `values`, as far as they fit, and answers how many there are.
-pub fn values_of(bytes: &[u8], values: &mut [u32]) -> usize
-    ensures { Holds values.old values.new result (entries32 bytes.now) }
-{
-    let count = bytes.len() / VALUE_BYTES;
-    let mut i = 0;
-    while i < count && i < values.len() {
-        values[i] = u32_at(bytes, VALUE_BYTES * i);
-        i += 1;
+    ghost ROOM = { picks_room };
+
+    ghost number = { own };
+
+    ghost numbers = { all };
+
+    ghost number_at = { u16_at };
+
+    ghost entries = { entries16 };
+
+    ghost laws = { picks_laws };
+
+    const BYTES: usize = 2;
+
+    const ROOM: usize = 2 * MAX_STATES;
+
+    fn put(self, page: &mut Page<'_>) {
+        page.put(&u16::to_le_bytes(self));
     }
-    i
+
+    fn at(bytes: &[u8], place: usize) -> u16 {
+        u16_at(bytes, place) as u16
+    }
 }
 
-// Reads the entries of a picks file into the front of `picks`, as far as they fit, and answers how many there are.
-pub fn picks_of(bytes: &[u8], picks: &mut [u16]) -> usize
-    ensures { Holds picks.old picks.new result (entries16 bytes.now) }
+// Room for the bytes of a table of values, and of one of picks.
+pub const VALUES_ROOM: usize = <u32 as Entry>::ROOM;
+
+pub const PICKS_ROOM: usize = <u16 as Entry>::ROOM;
+
+// Puts the bytes of each entry of a table.
+fn put_each<E: Entry>(page: &mut Page<'_>, table: &[E])
+    ensures { Puts page.old page.new (table_bytes E.BYTES (E.numbers table.now)) }
 {
-    let count = bytes.len() / PICK_BYTES;
-    let mut i = 0;
-    while i < count && i < picks.len() {
-        picks[i] = u16_at(bytes, PICK_BYTES * i) as u16;
-        i += 1;
+    for &entry in table {
+        entry.put(page);
     }
-    i
+}
+
+// Puts the bytes of a table at the front of `out`, and answers how many there are. Nothing is cut of a table for whose bytes there is room.
+pub fn put_table<E: Entry>(table: &[E], out: &mut [u8]) -> usize
+    ensures holds { Holds out.old out.new result (table_bytes E.BYTES (E.numbers table.now)) }
+    ensures whole { E.BYTES * length table.now ≤ length out.old →
+        take result out.new ≡ table_bytes E.BYTES (E.numbers table.now) }
+{
+    let mut page = Page::new(out);
+    put_each(&mut page, table);
+    page.len()
+}
+
+// Reads the entries of a table file into the front of `table`, as far as they fit, and answers how many there are.
+pub fn table_of<E: Entry>(bytes: &[u8], table: &mut [E]) -> usize
+    ensures { Holds (E.numbers table.old) (E.numbers table.new) result (E.entries bytes.now) }
+{
+    let count = table.len().min(bytes.len() / E::BYTES);
+    for i in 0..count {
+        table[i] = E::at(bytes, E::BYTES * i);
+    }
+    count
 }

@@ -18,24 +18,27 @@ use Rattle.model.specs.Lines.{answer_line, state_lines, run_states, run_text, re
 use Rattle.model.specs.Promises.{plan_tables, plan_question, held_on, plan_solution, Shown, Plans, Audits}
 use Rattle.model.specs.Questions.{Verdict, passes, fails, file_questions, file_questions_within, layout_questions}
 use Rattle.model.specs.Sections.{problem_of}
-use Rattle.model.specs.declared.Counts.{Counts}
 use Rattle.model.specs.declared.Kind.{Kind}
 use Rattle.model.specs.Solution.{Answer, solved, spent, refused, Tables, tables, Solution, solution}
 use Rattle.model.specs.TableFiles.{entries16, entries32}
 use Rattle.model.specs.Value.{by_state}
-use Rattle.model.specs.declared.SolveAnswer.{SolveAnswer}
-use Rattle.model.specs.declared.SolveAnswer.TheVariants.{Solved, Spent, Refused}
+use Rattle.model.specs.declared.Ended.{Ended}
+use Rattle.model.specs.declared.Ended.TheVariants.{Solved, Spent}
+use Rattle.model.specs.declared.Refusal.{Refusal}
+use Rattle.std.specs.Prelude.{Result, Ok, Err}
+use Rattle.guarantee.specs.Carries.{answer_known}
 use Rattle.guarantee.specs.Listings.{lines_pick}
 use Rattle.guarantee.specs.Prefixes.{longest_file, read_short, read_full}
 use Rattle.guarantee.proofs.Fronts.{audit_tables_front, audit_buffers}
 use Rattle.guarantee.specs.Searches.{then_first}
 use Rattle.guarantee.specs.Solutions.{Told, TurnedDown, ran, told, lent_long, plan_lent, refused_by}
 use Rattle.guarantee.specs.WellFormed.{well_formed}
-use Rattle.printing.specs.Texts.{Brief}
+use Rattle.printing.specs.Texts.{Brief, WalkWithin}
 use Rattle.writing.specs.Putting.{same, uncut}
 use Rattle.programs.specs.AnswerFor.{AnswerFor}
-use Rattle.programs.specs.Remainders.{RemaindersTo}
-use Rattle.programs.proofs.Remaining.{table_entry, line_remainder, lines_same}
+use Rattle.programs.specs.Remainders.{RemaindersTo, RunDone}
+use Rattle.programs.specs.declared.Ran.{Ran}
+use Rattle.programs.proofs.Remaining.{table_long, table_low, table_entry, line_remainder, lines_same}
 
 module _ {f : List ℕ} {a : Answer} (s : AnswerFor f a) where
   run_passes : ((q i : ℕ) → a ≡ refused q i → ⊥) → layout_questions f ≡ passes
@@ -46,12 +49,15 @@ module _ {f : List ℕ} {a : Answer} (s : AnswerFor f a) where
       go (TurnedDown q i e is) = absurd (never q i (s.answer_is ∙ ap (λ x. x.answer) is))
       go (ran file lent is) = then_first (layout_questions f) _ file
 
-  pub solved_passes : {c : Counts} → a ≡ solved c → layout_questions f ≡ passes
-  solved_passes {c} h =
-      run_passes (λ q i k. let never : solved c ≡ refused q i = sym h ∙ k in absurd (true≢false (cc)))
+-- a file that was run has passed its questions, and its states are those of the run
+pub ended_passes : {f : List ℕ} (e : Ended) → AnswerFor f (answer_of (Ok e)) → layout_questions f ≡ passes
+ended_passes (Solved c) s = run_passes s (λ q i k. cc)
+ended_passes (Spent c) s = run_passes s (λ q i k. cc)
 
-  pub spent_passes : {c : Counts} → a ≡ spent c → layout_questions f ≡ passes
-  spent_passes {c} h = run_passes (λ q i k. let never : spent c ≡ refused q i = sym h ∙ k in absurd (true≢false (cc)))
+pub ended_states : (e : Ended) (n : ℕ) → n ≡ run_states (answer_of (Ok e)) n
+unfolding run_states
+ended_states (Solved c) n = refl
+ended_states (Spent c) n = refl
 
 -- the states of a run lie within the tables that were lent; where there are any, all those of the file do
 pub record Room (f : List ℕ) (t : Tables) (k : ℕ) : Type 0 where
@@ -103,12 +109,37 @@ pub run_walk_room
     → a ≡ (solution kind f budget t).answer → k ≡ run_states a (problem_of f).states → length walk ≡ length t.walk_list → k ≤ length walk
 run_walk_room kind f budget t walk is e long = le_trans (run_room kind f budget is e).walk_room (le_of_eq (sym long))
 
+-- so what a run of `plan` leaves has room for its states, which the text of its walk takes
+module _ {kind : Kind} {f : List ℕ} {t t' : Tables} {r : Ran} (done : RunDone kind f t t' r) where
+  pub done_answer : answer_of r.answer ≡ (solution kind f plan_rounds t).answer
+  done_answer = answer_known r.answer _ done.leaves.answer
+
+  pub done_room : Room f t r.states
+  done_room = run_room kind f plan_rounds done_answer done.states_are
+
+  pub done_walk : length t'.walk_list ≡ length t.walk_list → r.states ≤ length t'.walk_list
+  done_walk long = run_walk_room kind f plan_rounds t t'.walk_list done_answer done.states_are long
+
+  pub done_fit
+      : length t'.values ≡ length t.values → length t'.picks ≡ length t.picks → length t'.walk_list ≡ length t.walk_list
+      → WalkWithin (take r.states t'.walk_list) t'.values t'.picks r.remainders
+  done_fit vl pl wl =
+      let listed = length-take-le r.states t'.walk_list (done_walk wl) in
+      let table = table_long done.remainders_are in
+      record {
+        states = omega (arith, done_room.few);
+        values_long = omega (arith, done_room.values_room);
+        picks_long = omega (arith, done_room.picks_room);
+        remainders_long = omega (arith, done_room.few);
+        remainders_low = λ s l. table_low done.remainders_are s done_room.few (omega arith);
+      }
+
 -- where there are states the run was no refusal
-pub run_said : (r : SolveAnswer) (n : ℕ) → 0 < run_states (answer_of r) n → (solve_carries r).said ≡ Said.refused → ⊥
+pub run_said : (r : Result Ended Refusal) (n : ℕ) → 0 < run_states (answer_of r) n → (solve_carries r).said ≡ Said.refused → ⊥
 unfolding run_states
-run_said (Solved counts) n h e = absurd (true≢false (cc))
-run_said (Spent counts) n h e = absurd (true≢false (cc))
-run_said (Refused q i) n h e = omega arith
+run_said (Ok (Solved counts)) n h e = absurd (true≢false (cc))
+run_said (Ok (Spent counts)) n h e = absurd (true≢false (cc))
+run_said (Err r) n h e = omega arith
 
 -- what `plan` solves where it holds the input
 abbrev held_solution : Kind → (f values picks : List ℕ) → Solution

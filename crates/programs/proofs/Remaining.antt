@@ -1,7 +1,7 @@
 -- The remainders that are printed are those of the model: the pick of a state with a line is a row, whose remainder was computed, or
 -- giving up, which is none of the rows. Lines hang on the remainders of listed states alone.
 use mathlib.Core.Path.{◌≡◌, refl, sym, ◌∙◌, ap}
-use Prim.Native.Nat.{ℕ, zero, suc, ◌≤◌, ◌<◌}
+use Prim.Native.Nat.{ℕ, zero, suc, ◌≤◌, ◌<◌, ◌^◌}
 use native.Mathlib.Omega.{arith}
 use mathlib.Core.Bool.{Bool, true, false}
 use mathlib.Core.List.{List, ◌++◌}
@@ -19,7 +19,6 @@ use Rattle.guarantee.specs.Listings.{PickLine, gives_up, takes_row}
 use Rattle.guarantee.specs.Tables.{fill_length, fill_entry}
 use Rattle.guarantee.specs.Totals.{known_low, known_high}
 use Rattle.guarantee.specs.Values.{row_remainder-low}
-use Rattle.printing.proofs.Widths.{bits16}
 use Rattle.programs.specs.Remainders.{remainder_within, remainder_at, RemaindersTo}
 
 -- the two answers of `pick_remainder`
@@ -45,7 +44,7 @@ module _ (p : Problem) (known : one_of p.total weight_totals ≡ true) (v : ℕ 
   remainder_low : row_remainder p v r < max_total
   remainder_low = omega (arith, row_remainder-low p r (known_low p.total known) v, known_high p.total known)
 
-  pub remainder_fits : {x : ℕ} → x ≡ row_remainder p v r → x < bits16
+  pub remainder_fits : {x : ℕ} → x ≡ row_remainder p v r → x < 2 ^ 16
   remainder_fits e = omega (arith, remainder_low)
 
   pick_remainder_low : (b : Bool) → pick_remainder_on b p v r < max_total
@@ -53,9 +52,9 @@ module _ (p : Problem) (known : one_of p.total weight_totals ≡ true) (v : ℕ 
   pick_remainder_low false = remainder_low
 
 -- the table of them: where there was no run, and entry by entry
-pub none_filled : {f values picks : List ℕ} {n : ℕ} → n ≤ 0 → RemaindersTo f values picks n (replicate max_states 0)
+pub none_filled : {f values picks : List ℕ} {n : ℕ} → n ≡ 0 → RemaindersTo f values picks n (replicate max_states 0)
 unfolding fill_to
-none_filled {n = n} h = let e : n ≡ 0 = omega arith in record { total_known = λ l. absurd (omega arith); filled = rw e refl }
+none_filled e = record { total_known = λ l. absurd (omega arith); filled = rw e refl }
 
 module _ {f values picks table : List ℕ} {n : ℕ} (h : RemaindersTo f values picks n table) where
   pub table_long : length table ≡ max_states

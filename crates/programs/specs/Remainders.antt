@@ -25,9 +25,8 @@ pub record RemaindersTo (f values picks : List ℕ) (n : ℕ) (table : List ℕ)
   pub total_known : 0 < n → one_of (problem_of f).total weight_totals ≡ true
   pub filled : table ≡ fill_to (remainder_at f values picks) (replicate max_states 0) n
 
--- a file with its index and its number of rows, and a table of values that is long enough
-pub record PicksReady (f index values : List ℕ) (rows : ℕ) : Type 0 where
-  pub ready : Ready f index
+-- the number of a file's rows, and a table of values that is long enough
+pub record PicksReady (f values : List ℕ) (rows : ℕ) : Type 0 where
   pub values_long : (problem_of f).states ≤ length values
   pub rows_are : rows ≡ (problem_of f).rows
 

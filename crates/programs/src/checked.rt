@@ -6,7 +6,6 @@ ghost use Rattle.model.specs.Sections.{problem_of};
 ghost use Rattle.programs.specs.Checked.{passed_states};
 
 use checking::questions::check;
-use model::FileAnswer;
 use reading::layout::layout_of;
 
 // The number of states of a file that passes questions 1 to 11; 0 where it is refused.
@@ -14,15 +13,8 @@ pub fn states_in(file: &[u8]) -> usize
     ensures value { result ≡ passed_states (file_questions file.now) (problem_of file.now).states }
     ensures few { result ≤ max_states }
 {
-    let answer = check(file);
-    match answer {
-        FileAnswer::Passed => {
-            let l = layout_of(file);
-            l.states
-        }
-        FileAnswer::Refused {
-            question: _,
-            place: _,
-        } => 0,
+    match check(file) {
+        Ok(()) => layout_of(file).states,
+        Err(_) => 0,
     }
 }

@@ -1,5 +1,5 @@
 // The arguments, reading files, and saying on standard error what failed.
-ghost use Rattle.std.specs.Prelude.{◌+◌, ◌≤◌, ◌≡◌, ◌++◌, IfOk, IsTrue, MatchResult, length};
+ghost use Rattle.std.specs.Prelude.{◌+◌, ◌≤◌, ◌≡◌, ◌++◌, IfOk, IsErr, IsTrue, MatchResult, length};
 ghost use Rattle.std.specs.Str.{IsUtf8};
 ghost use Rattle.model.specs.Lines.{codes};
 ghost use Rattle.printing.specs.Told.{AppendsReason};
@@ -21,50 +21,18 @@ const TOO_LONG: i32 = 36;
 
 const NO_TEXT: i32 = 84;
 
-// How many bytes were read, and where a read failed, why.
-#[derive(Clone, Copy)]
-pub struct Got {
-    pub length: usize,
-    pub failed: Option<Error>,
-}
-
-// One read into the part of `buf` from `at` on: how many bytes came.
-fn read_on<R: Read>(input: &mut R, buf: &mut [u8], at: usize) -> Got
-    requires { at ≤ length buf.old }
-    ensures { at + result.length ≤ length buf.new }
-{
-    match input.read(&mut buf[at..]) {
-        Ok(length) => Got {
-            length,
-            failed: None,
-        },
-        Err(error) => Got {
-            length: 0,
-            failed: Some(error),
-        },
-    }
-}
-
-// Reads until `buf` is full or the input ends. A read that fails is told.
-pub fn read_whole<R: Read>(input: &mut R, buf: &mut [u8]) -> Got
-    ensures { result.length ≤ length buf.new }
+// Reads until `buf` is full or the input ends, and answers what was read. The library's `read_exact` fails where the input ends before.
+pub fn read_whole<'a, R: Read>(input: &mut R, buf: &'a mut [u8]) -> io::Result<&'a [u8]>
+    ensures { IfOk result (λ part. length part.now ≤ length buf.old) }
 {
     let mut n = 0;
     while n < buf.len() {
-        let more = read_on(input, buf, n);
-        let k = more.length;
-        if k == 0 {
-            return Got {
-                length: n,
-                failed: more.failed,
-            };
+        match input.read(&mut buf[n..])? {
+            0 => break,
+            more => n += more,
         }
-        n += k;
     }
-    Got {
-        length: n,
-        failed: None,
-    }
+    Ok(&buf[..n])
 }
 
 // Writes a line to standard error, the program, the name, and why a call failed, and answers whether all of it is there.
@@ -78,12 +46,12 @@ pub fn fail<W: Write>(messages: &mut W, program: &[u8], name: &[u8], error: &Err
     begun && parted && told
 }
 
-// Puts argument `i` at the front of `name`, and answers its length, or says that it is missing or too long.
-pub fn argument<E: Env>(rt: &E, i: usize, name: &mut [u8]) -> io::Result<usize>
-    ensures { IfOk result (λ n. n ≤ length name.new) }
+// Puts argument `i` at the front of `name`, and answers it, or says that it is missing or too long.
+pub fn argument<'a, E: Env>(rt: &E, i: usize, name: &'a mut [u8]) -> io::Result<&'a [u8]>
+    ensures { IfOk result (λ part. length part.now ≤ length name.old) }
 {
     match rt.arg(i, name) {
-        Ok(n) => Ok(n),
+        Ok(n) => Ok(&name[..n]),
         Err(FillError::NotPresent) => Err(Error::from_raw_os_error(MISSING)),
         Err(FillError::TooLong) => Err(Error::from_raw_os_error(TOO_LONG)),
     }
@@ -93,10 +61,7 @@ pub fn argument<E: Env>(rt: &E, i: usize, name: &mut [u8]) -> io::Result<usize>
 pub fn path_of(name: &[u8]) -> io::Result<&str>
     ensures { MatchResult result (λ path. path.now ≡ name.now) (λ _. IsUtf8 name.now → ⊥) }
 {
-    match str::from_utf8(name) {
-        Ok(path) => Ok(path),
-        Err(_) => Err(Error::from_raw_os_error(NO_TEXT)),
-    }
+    str::from_utf8(name).map_err(|_| Error::from_raw_os_error(NO_TEXT))
 }
 
 // Opens the file of a name, as `how` says: one that is no text is refused. What is there no contract can say.
@@ -108,44 +73,51 @@ pub fn open_named<F: Files>(rt: &F, how: &OpenOptions, name: &[u8]) -> io::Resul
 }
 
 // Reads the file of a name, as far as `buf` has room.
-fn read_file<F: Files>(rt: &F, name: &[u8], buf: &mut [u8]) -> Got
-    ensures { result.length ≤ length buf.new }
+fn read_file<'a, F: Files>(rt: &F, name: &[u8], buf: &'a mut [u8]) -> io::Result<&'a [u8]>
+    ensures { IfOk result (λ part. length part.now ≤ length buf.old) }
 {
-    match open_named(rt, OpenOptions::new().read(true), name) {
-        Ok(mut file) => read_whole(&mut file, buf),
-        Err(error) => Got {
-            length: 0,
-            failed: Some(error),
-        },
-    }
+    let mut file = open_named(rt, OpenOptions::new().read(true), name)?;
+    read_whole(&mut file, buf)
 }
 
-// Reads the file that argument `i` names, as far as `buf` has room. Where that fails it says so.
-pub fn read_named<R: Env + Files, W: Write>(
-    rt: &R,
-    messages: &mut W,
-    program: &[u8],
-    i: usize,
-    buf: &mut [u8],
-) -> Got
-    ensures { result.length ≤ length buf.new }
-{
-    let mut path = [0u8; NAME];
-    let n = match argument(rt, i, &mut path) {
-        Ok(n) => n,
-        Err(error) => {
-            fail(messages, program, &path, &error);
-            return Got {
-                length: 0,
-                failed: Some(error),
-            };
+// What failed was said on standard error: nothing is left to say of it.
+#[derive(Clone, Copy)]
+pub struct Told;
+
+// A program at work: its name, the system, and standard error, where it says what failed.
+#[derive(Drop)]
+pub struct Program<'a, R, W> {
+    pub name: &'a [u8],
+    pub rt: &'a R,
+    pub messages: W,
+}
+
+impl<R, W: Write> Program<'_, R, W> {
+    // What a call on a name gave. Where it failed that is said, and otherwise nothing.
+    pub fn told<T>(&mut self, name: &[u8], got: io::Result<T>) -> Result<T, Told>
+        ensures value { MatchResult got (λ x. result ≡ Ok x) (λ _. IsErr result) }
+        ensures silent { IfOk got (λ _. W.contents self.new.messages ≡ W.contents self.old.messages) }
+    {
+        if let Err(error) = &got {
+            fail(&mut self.messages, self.name, name, error);
         }
-    };
-    let got = read_file(rt, &path[..n], buf);
-    if let Some(error) = got.failed {
-        fail(messages, program, &path[..n], &error);
+        got.map_err(|_| Told)
     }
-    got
+
+    // Reads the file that argument `i` names, as far as `buf` has room. Where that fails it is said.
+    pub fn read_named<'b>(&mut self, i: usize, buf: &'b mut [u8]) -> Result<&'b [u8], Told>
+    where
+        R: Env + Files,
+        ensures { IfOk result (λ part. length part.now ≤ length buf.old) }
+    {
+        let mut path = [0u8; NAME];
+        let name = match argument(self.rt, i, &mut path) {
+            Ok(name) => name,
+            Err(error) => return self.told(&path, Err(error)),
+        };
+        let got = read_file(self.rt, name, buf);
+        self.told(name, got)
+    }
 }
 
 // Whether argument `i` begins with `-`. A longer argument than the buffer leaves its first byte there.
@@ -160,14 +132,7 @@ fn is_dashed<E: Env>(rt: &E, i: usize) -> bool {
 pub fn are_names<E: Env>(rt: &E, first: usize, count: usize) -> bool
     ensures { count ≤ first → IsTrue result }
 {
-    let mut i = first;
-    while i < count {
-        if is_dashed(rt, i) {
-            return false;
-        }
-        i += 1;
-    }
-    true
+    (first..count).all(|i| !is_dashed(rt, i))
 }
 
 // Whether there is an argument `i`.
@@ -178,9 +143,5 @@ fn is_given<E: Env>(rt: &E, i: usize) -> bool {
 
 // How many arguments there are, with the program's own name. No contract can say what a program is given.
 pub fn arg_count<E: Env>(rt: &E) -> usize {
-    let mut count = 0;
-    while count < usize::MAX && is_given(rt, count) {
-        count += 1;
-    }
-    count
+    (0..usize::MAX).take_while(|i| is_given(rt, *i)).count()
 }

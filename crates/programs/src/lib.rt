@@ -6,7 +6,7 @@ pub mod checked;
 pub mod files;
 mod remainders;
 
-ghost use Rattle.std.specs.Prelude.{◌≡◌, List, ℕ, take};
+ghost use Rattle.std.specs.Prelude.{◌≡◌, ◌≤◌, List, ℕ, length, take};
 ghost use Rattle.model.specs.Answers.{answer_of};
 ghost use Rattle.model.specs.Buffers.{ReadOf};
 ghost use Rattle.model.specs.Lines.{run_states};
@@ -18,13 +18,14 @@ ghost use Rattle.programs.specs.Remainders.{RunDone};
 
 use crate::remainders::remainders_of;
 use model::{
-    Kind, LINE_MOST, LIST_END, LONGEST_FILE, MAX_ROWS, MAX_STATES, PLAN_HOLDS, PLAN_ROUNDS,
-    SolveAnswer,
+    Ended, Kind, LINE_MOST, LIST_END, LONGEST_FILE, MAX_ROWS, MAX_STATES, PLAN_HOLDS, PLAN_ROUNDS,
+    Question, Refusal,
 };
-use printing::lines::{audit_text, plan_text, put_answer};
-use printing::table_files::{PICKS_ROOM, VALUES_ROOM, picks_of, values_of};
+use printing::lines::{Run, answer_text, audit_text, plan_text};
+use printing::table_files::{PICKS_ROOM, VALUES_ROOM, table_of};
 use reading::index::large_index;
 use reading::layout::layout_of;
+use solving::Tables;
 use solving::solve::solve_file;
 
 // Room for the longest problem file, and for a byte more: a longer file is refused as its front is.
@@ -44,43 +45,31 @@ pub struct Planned {
 pub fn front(bytes: &[u8], n: usize) -> &[u8]
     ensures { result.now ≡ take n bytes.now }
 {
-    if n < bytes.len() {
-        return &bytes[..n];
-    }
-    bytes
+    &bytes[..n.min(bytes.len())]
 }
 
 // The number of states of a file that has an answer; 0 where it is refused.
-fn states_of(file: &[u8], answer: SolveAnswer) -> usize
+fn states_of(file: &[u8], answer: Result<Ended, Refusal>) -> usize
     requires { AnswerFor file.now (answer_of answer) }
     ensures { result ≡ run_states (answer_of answer) (problem_of file.now).states }
 {
     match answer {
-        SolveAnswer::Solved { counts: _ } => {
-            let l = layout_of(file);
-            l.states
-        }
-        SolveAnswer::Spent { counts: _ } => {
-            let l = layout_of(file);
-            l.states
-        }
-        SolveAnswer::Refused {
-            question: _,
-            place: _,
-        } => 0,
+        Ok(_) => layout_of(file).states,
+        Err(_) => 0,
     }
 }
 
 // A run of `plan`: its answer, the number of its states, and the remainder of the pick at each.
 #[derive(Drop)]
 struct Ran {
-    answer: SolveAnswer,
+    answer: Result<Ended, Refusal>,
     states: usize,
     remainders: [u16; MAX_STATES],
 }
 
 // Solves a file with the rounds that `plan` has. The remainders are those under the values that the run left. A program runs once, so
-// that its index is the large one for every file.
+// that its index is the large one for every file. The tables are lent one by one, as the program
+// has them.
 fn run(
     kind: Kind,
     file: &[u8],
@@ -94,16 +83,13 @@ fn run(
         (tables values.new picks.new remembered.new walk.new) result }
 {
     let mut index = large_index();
-    let answer = solve_file(
-        kind,
-        file,
-        PLAN_ROUNDS,
+    let mut tables = Tables {
         values,
         picks,
         remembered,
         walk,
-        &mut index,
-    );
+    };
+    let answer = solve_file(kind, file, PLAN_ROUNDS, &mut tables, &mut index);
     let states = states_of(file, answer);
     let remainders = remainders_of(file, &index, values, picks, states);
     Ran {
@@ -128,12 +114,10 @@ pub fn plan(
         page.new result.length result.states }
 {
     if PLAN_HOLDS < read {
-        let answer = SolveAnswer::Refused {
-            question: 25,
-            place: 0,
+        return Planned {
+            length: answer_text(Err(Question::Input.at(0)), page),
+            states: 0,
         };
-        let length = put_answer(page, answer);
-        return Planned { length, states: 0 };
     }
     let mut remembered = [0u32; MAX_ROWS];
     let mut walk = [LIST_END; MAX_STATES];
@@ -146,37 +130,26 @@ pub fn plan(
         &mut walk,
     );
     let states = ran.states;
-    let length = plan_text(
-        ran.answer,
+    let left = Run {
         values,
         picks,
-        &ran.remainders,
-        &walk[..states],
-        page,
-    );
+        remainders: &ran.remainders,
+        walk: &walk[..states],
+    };
+    let length = plan_text(ran.answer, left, page);
     Planned { length, states }
 }
 
-// The line of the audit of an input with the tables of two others, of which i, j and k bytes are in `file`, `values` and `picks`.
-pub fn audit_line(
-    file: &[u8; FILE_ROOM],
-    i: usize,
-    values: &[u8; VALUES_ROOM],
-    j: usize,
-    picks: &[u8; PICKS_ROOM],
-    k: usize,
-    out: &mut [u8; LINE_MOST],
-) -> usize
-    ensures { (f v p : List ℕ) → ReadOf f file.now i → ReadOf v values.now j
-        → ReadOf p picks.now k → Audits f v p out.old out.new result }
+// The line of the audit of an input with the tables of two others. What is lent of each is the input, or its front where it is longer than
+// the room for it.
+pub fn audit_line(file: &[u8], values: &[u8], picks: &[u8], out: &mut [u8; LINE_MOST]) -> usize
+    ensures within { result ≤ length out.new }
+    ensures audits { (f v p : List ℕ) → take FILE_ROOM f ≡ file.now → take VALUES_ROOM v ≡ values.now
+        → take PICKS_ROOM p ≡ picks.now → Audits f v p out.old out.new result }
 {
-    let problem = front(file, i);
-    let value_bytes = front(values, j);
-    let pick_bytes = front(picks, k);
     let mut v = [0u32; MAX_STATES];
-    let n = values_of(value_bytes, &mut v);
+    let n = table_of(values, &mut v);
     let mut p = [0u16; MAX_STATES];
-    let m = picks_of(pick_bytes, &mut p);
-    let answer = auditing::audit(problem, &v[..n], &p[..m]);
-    audit_text(answer, out)
+    let m = table_of(picks, &mut p);
+    audit_text(auditing::audit(file, &v[..n], &p[..m]), out)
 }

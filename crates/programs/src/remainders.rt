@@ -6,39 +6,35 @@ ghost use Rattle.programs.specs.Remainders.{PicksReady, RunReady, RemaindersTo, 
 
 use model::MAX_STATES;
 use reading::layout::layout_of;
-use reading::value::row_value;
+use reading::problem::Indexed;
 
 // The remainder of a pick under `values`, 0 where it is none of the rows.
-fn pick_remainder(file: &[u8], index: &[u32], values: &[u32], rows: usize, pick: u16) -> u16
-    requires { PicksReady file.now index.now values.now rows }
-    ensures { result ≡ remainder_within file.now values.now pick }
+fn pick_remainder(problem: Indexed<'_>, values: &[u32], rows: usize, pick: u16) -> u16
+    requires { PicksReady problem.file.now values.now rows }
+    ensures { result ≡ remainder_within problem.entry.file.now values.now pick }
 {
     let r = pick as usize;
     if rows <= r {
         return 0;
     }
-    let q = row_value(file, index, values, r);
-    q.remainder as u16
+    problem.row_value(values, r).remainder as u16
 }
 
 // Puts the remainder of the pick at each of the first n states at the front of `remainders`.
 fn put_remainders(
-    file: &[u8],
-    index: &[u32],
+    problem: Indexed<'_>,
     values: &[u32],
     picks: &[u16],
     rows: usize,
     n: usize,
     remainders: &mut [u16; MAX_STATES],
 )
-    requires { PicksReady file.now index.now values.now rows × (n ≤ length picks.now) × (n ≤ max_states) }
+    requires { PicksReady problem.file.now values.now rows × (n ≤ length picks.now) × (n ≤ max_states) }
     ensures { remainders.new
-        ≡ fill_to (remainder_at file.now values.now picks.now) remainders.old n }
+        ≡ fill_to (remainder_at problem.entry.file.now values.now picks.now) remainders.old n }
 {
-    let mut s = 0;
-    while s < n {
-        remainders[s] = pick_remainder(file, index, values, rows, picks[s]);
-        s += 1;
+    for s in 0..n {
+        remainders[s] = pick_remainder(problem, values, rows, picks[s]);
     }
 }
 
@@ -54,9 +50,10 @@ pub fn remainders_of(
     ensures { RemaindersTo file.now values.now picks.now n result }
 {
     let mut remainders = [0u16; MAX_STATES];
-    if 0 < n {
-        let l = layout_of(file);
-        put_remainders(file, index, values, picks, l.rows, n, &mut remainders);
+    if n != 0 {
+        let problem = Indexed { file, index };
+        let rows = layout_of(file).rows;
+        put_remainders(problem, values, picks, rows, n, &mut remainders);
     }
     remainders
 }

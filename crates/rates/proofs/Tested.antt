@@ -20,5 +20,5 @@ sheet_tested l long test =
     }
 
 -- and the sheet's text is the one that is printed for the file's length
-pub and_printed : {l : List ℕ} → RateSheet l → RateSheet l × (table_text l ≡ sheet_text file_stick)
-and_printed {l} sheet = (sheet, sheet_is_the_table l sheet.keeps)
+pub sheet_printed : {l : List ℕ} → RateSheet l → table_text l ≡ sheet_text file_stick
+sheet_printed {l} sheet = sheet_is_the_table l sheet.keeps

@@ -15,20 +15,30 @@ use model::{MAX_RATE, MILLIMETRE_SECONDS, MIN_RATE};
 // The number of rates on the sheet.
 pub const RATES: usize = (MAX_RATE - MIN_RATE + 1) as usize;
 
-// The sheet. Whoever reads many rates takes it once: a constant is copied where it is used.
-pub fn rate_sheet() -> [u16; RATES]
-    ensures rate_sheet { RateSheet result }
-    ensures printed { table_text result ≡ sheet_text file_stick }
-{
-    RATE_SECONDS
+// The sheet, an entry for each rate.
+#[derive(Drop)]
+pub struct Sheet {
+    pub seconds: [u16; RATES],
+    pub ghost rate_sheet: { RateSheet seconds },
 }
 
-// "600,000 / r rounded up" for a melt rate, off the sheet.
-pub fn rate_seconds(sheet: &[u16; RATES], rate: u32) -> u16
-    requires { (RateSheet sheet.now) × (min_rate ≤ rate) × (rate ≤ max_rate) }
-    ensures { result ≡ rate_seconds rate }
+impl Sheet {
+    // "600,000 / r rounded up" for a melt rate, off the sheet.
+    pub fn rate_seconds(&self, rate: u32) -> u16
+        requires { (min_rate ≤ rate) × (rate ≤ max_rate) }
+        ensures { result ≡ rate_seconds rate }
+    {
+        self.seconds[(rate - MIN_RATE) as usize]
+    }
+}
+
+// The printed sheet. Whoever reads many rates takes it once: a constant is copied where it is used.
+pub fn rate_sheet() -> Sheet
+    ensures printed { table_text result.seconds ≡ sheet_text file_stick }
 {
-    sheet[(rate - MIN_RATE) as usize]
+    Sheet {
+        seconds: RATE_SECONDS,
+    }
 }
 
 // "600 × length / rate rounded up", for a stick of so many millimetres at a melt rate.
@@ -36,6 +46,5 @@ pub fn length_seconds(mm: u32, rate: u32) -> u64
     requires { 1 ≤ rate }
     ensures { result ≡ length_seconds mm rate }
 {
-    let r = rate as u64;
-    (MILLIMETRE_SECONDS * mm as u64 + (r - 1)) / r
+    (MILLIMETRE_SECONDS * u64::from(mm)).div_ceil(rate.into())
 }

@@ -8,3 +8,4 @@ pub mod Begins
 pub mod RowParts
 pub mod Entries
 pub mod Fields
+pub mod Picks

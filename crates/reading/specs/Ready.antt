@@ -1,12 +1,13 @@
 -- What stands once questions 1 to 9 have said yes, and once 1 to 10 have: the index holds what it should, and all bytes that a
 -- row needs are there.
-use Rattle.std.specs.Prelude.{◌≡◌, true, ℕ, ◌+◌, ◌*◌, ◌/◌, ◌≤◌, ◌<◌, List, length, get_or, drop}
+use Rattle.std.specs.Prelude.{◌≡◌, true, ℕ, ◌+◌, ◌*◌, ◌/◌, ◌≤◌, ◌<◌, List, length, get_or, drop, Option, MatchOption}
 use Rattle.model.specs.Bytes.{u16_at}
 use Rattle.model.specs.Limits.{max_rows, weight_totals}
 use Rattle.model.specs.Search.{one_of}
 use Rattle.model.specs.Sections.{problem_of, outcome_at, outcome_count_of}
 use Rattle.model.specs.Questions.{passes, layout_questions, undercut_state, undercut_row}
 use Rattle.model.specs.Value.{row_ticks}
+use Rattle.reading.specs.declared.value.Undercut.{Undercut}
 use Rattle.reading.specs.Tests.{rows_base, index_for, bytes_between}
 use Rattle.reading.specs.Fields.{Within}
 use Rattle.reading.specs.Bounds.{max_byte}
@@ -52,3 +53,8 @@ pub record Undercuts (f : List ℕ) (v : ℕ → ℕ) (s r : ℕ) : Type 0 where
   pub row_is : s < (problem_of f).states → r ≡ undercut_row (problem_of f) v s
   pub no_row : (problem_of f).states ≤ s → r ≡ 0
   pub row_there : r ≤ max_rows
+
+-- the same of what a search hands out: a state of the problem with an undercut row, or that there is none
+abbrev pub FirstUndercut : List ℕ → (ℕ → ℕ) → Option Undercut → Type 0
+FirstUndercut f v found =
+    MatchOption found (Undercuts f v (problem_of f).states 0) (λ u. (u.state < (problem_of f).states) × Undercuts f v u.state u.row)

@@ -28,6 +28,7 @@ pub fn part_of(code: u32) -> Part
 }
 
 // The code of row r.
+// It asks for two entries of the index, and so for less than an `Indexed` file.
 pub fn row_code(index: &[u32], r: usize) -> u32
     requires { Coded index.now r }
     ensures { result ≡ row_code index.now r }

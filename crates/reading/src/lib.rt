@@ -7,6 +7,8 @@ pub mod index;
 pub mod layout;
 pub mod numbers;
 pub mod outcomes;
+pub mod picks;
+pub mod problem;
 pub mod settings;
 pub mod states;
 pub mod value;

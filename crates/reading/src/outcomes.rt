@@ -8,9 +8,10 @@ ghost use Rattle.reading.specs.Tests.{part_bytes, outcomes_in, rows_base};
 
 use crate::index::ROWS;
 use crate::numbers::u16_at;
+use crate::problem::Indexed;
 use model::TICKS_PER_SECOND;
 
-// The outcomes of row r, 4 bytes each, as a part that starts inside the file.
+// The outcomes of row r, 4 bytes each, as a part that starts inside the file: it lives as long as the file, whatever the index does.
 pub fn outcomes_of<'a>(file: &'a [u8], index: &[u32], r: usize) -> &'a [u8]
     requires { Ready file.now index.now × (r < (problem_of file.now).rows) }
     ensures result_value { outcomes_in result.now ≡ (problem_of file.now).outcomes r }
@@ -22,26 +23,36 @@ pub fn outcomes_of<'a>(file: &'a [u8], index: &[u32], r: usize) -> &'a [u8]
     &file[from..to]
 }
 
-// How many outcomes row r has.
-pub fn outcome_count(file: &[u8], index: &[u32], r: usize) -> usize
-    requires { Ready file.now index.now × (r < (problem_of file.now).rows) }
-    ensures { result ≡ length ((problem_of file.now).outcomes r) }
-{
-    let part = outcomes_of(file, index, r);
-    part.len() / 4
-}
+impl<'a> Indexed<'a> {
+    // The outcomes of row r, 4 bytes each, as a part that starts inside the file.
+    pub fn outcomes(self, r: usize) -> &'a [u8]
+        requires { r < (problem_of self.file.now).rows }
+        ensures result_value { outcomes_in result.now ≡ (problem_of self.entry.file.now).outcomes r }
+        ensures bytes { (result.now ≡ part_bytes self.entry.file.now r)
+            × (length result.now ≡ 4 * length ((problem_of self.entry.file.now).outcomes r)) }
+    {
+        outcomes_of(self.file, self.index, r)
+    }
 
-// Where outcome o of row r leads.
-pub fn successor_of(file: &[u8], index: &[u32], r: usize, o: usize) -> u32
-    requires { Ready file.now index.now × (r < (problem_of file.now).rows)
-        × (o < length ((problem_of file.now).outcomes r)) }
-    ensures { (s : ℕ) → result ≡ get_or (successors (problem_of file.now) r) o s }
-{
-    let part = outcomes_of(file, index, r);
-    u16_at(part, 4 * o)
+    // How many outcomes row r has.
+    pub fn outcome_count(self, r: usize) -> usize
+        requires { r < (problem_of self.file.now).rows }
+        ensures { result ≡ length ((problem_of self.entry.file.now).outcomes r) }
+    {
+        self.outcomes(r).len() / 4
+    }
+
+    // Where outcome o of row r leads.
+    pub fn successor(self, r: usize, o: usize) -> u32
+        requires { (r < (problem_of self.file.now).rows) × (o < length ((problem_of self.file.now).outcomes r)) }
+        ensures { (s : ℕ) → result ≡ get_or (successors (problem_of self.entry.file.now) r) o s }
+    {
+        u16_at(self.outcomes(r), 4 * o)
+    }
 }
 
 // The cost of row r in seconds.
+// It asks for one entry of the index, and so for less than an `Indexed` file.
 pub fn seconds_of(index: &[u32], r: usize) -> u32
     requires { rows_base + 2 * r + 1 < length index.now }
     ensures { result ≡ seconds_at index.now r }

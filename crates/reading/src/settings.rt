@@ -21,6 +21,7 @@ pub struct Settings {
 }
 
 // The weight total W: the fourth setting, or 1,000 where there are three.
+#[tactic(auto, using(crate::proofs::Places::settings_there, crate::proofs::Places::fourth_there))]
 pub fn total_of(file: &[u8]) -> u32
     requires { layout_questions file.now ≡ passes }
     ensures { result ≡ (problem_of file.now).total }
@@ -32,6 +33,7 @@ pub fn total_of(file: &[u8]) -> u32
 }
 
 // All settings.
+#[tactic(auto, using(crate::proofs::Places::settings_there))]
 pub fn settings_of(file: &[u8]) -> Settings
     requires { layout_questions file.now ≡ passes }
     ensures { SettingsOf file.now result }
@@ -45,6 +47,7 @@ pub fn settings_of(file: &[u8]) -> Settings
 }
 
 // The start state.
+#[tactic(auto, using(crate::proofs::Places::settings_there, crate::proofs::Places::start_at))]
 pub fn start_of(file: &[u8]) -> usize
     requires { layout_questions file.now ≡ passes }
     ensures { result ≡ (problem_of file.now).start }
@@ -53,6 +56,7 @@ pub fn start_of(file: &[u8]) -> usize
 }
 
 // "Giving up costs 1000 × D", in ticks.
+#[tactic(auto, using(crate::proofs::Places::settings_there, crate::proofs::Places::penalty_at))]
 pub fn give_up_cost(file: &[u8]) -> u32
     requires { (layout_questions file.now ≡ passes) × ((problem_of file.now).penalty ≤ max_penalty) }
     ensures { result ≡ give_up_cost (problem_of file.now) }

@@ -5,16 +5,18 @@ ghost use Rattle.model.specs.Limits.{value_bound, weight_totals};
 ghost use Rattle.model.specs.Search.{one_of};
 ghost use Rattle.model.specs.Sections.{problem_of};
 ghost use Rattle.model.specs.Value.{row_value, row_remainder, weighted_sum, by_state};
-ghost use Rattle.reading.specs.Ready.{Ready, RowReady, SumThere, PartThere, Undercuts};
+ghost use Rattle.reading.specs.Ready.{SumThere, PartThere, FirstUndercut};
 ghost use Rattle.reading.specs.Tests.{outcomes_in, outcomes_between};
 ghost use Rattle.reading.specs.Bounds.{short_bound, max_byte};
 
 use crate::index::ROWS;
 use crate::numbers::u16_at;
+use crate::problem::Indexed;
 use crate::settings::total_of;
 use model::{HUNDREDTHS, TEN_THOUSANDTHS, THOUSANDTHS, TWELVE_BITS};
 
 // w × V(successor), not rounded.
+// A function of its own: the edit `each_product_rounded` is of it.
 fn product(weight: u32, value: u32) -> u64
     requires { weight * value < short_bound * value_bound }
     ensures { result ≡ weight * value }
@@ -33,7 +35,7 @@ fn weighted(part: &[u8], values: &[u32], i: usize) -> u64
 }
 
 // The sum of w × V(successor) over the outcomes in `part`, 4 bytes each, two a step: most rows have two, and the compiler leaves
-// such a loop as it is.
+// such a loop as it is. A `for` over the pairs, with the odd outcome first, was tried: a run takes 4 to 6 hundredths more time.
 fn weighted_sum(part: &[u8], values: &[u32]) -> u64
     requires { SumThere part.now (length values.now) }
     ensures value { result ≡ weighted_sum (outcomes_in part.now) (by_state values.now) }
@@ -53,6 +55,7 @@ fn weighted_sum(part: &[u8], values: &[u32]) -> u64
 }
 
 // A weighted sum divided by a total, rounded down once.
+// A function of its own: the edit `row_value_rounded_up` is of it.
 fn quotient(sum: u64, total: u32) -> u64
     requires { 1 ≤ total }
     ensures { result ≡ sum / total }
@@ -114,31 +117,6 @@ pub fn part_value(
     RowValue { value, remainder }
 }
 
-// The value of row r under `values`, and the remainder.
-pub fn row_value(file: &[u8], index: &[u32], values: &[u32], r: usize) -> RowValue
-    requires { RowReady file.now index.now (length values.now) r }
-    ensures value_value { result.value ≡ row_value (problem_of file.now) (by_state values.now) r }
-    ensures remainder { result.remainder ≡ row_remainder (problem_of file.now) (by_state values.now) r }
-{
-    let from = index[ROWS + 2 * r] as usize;
-    let cost = index[ROWS + 2 * r + 1];
-    let to = index[ROWS + 2 * r + 2] as usize;
-    part_value(file, values, from, to, cost, total_of(file))
-}
-
-// Whether the value of row r lies below `value`. It is at least the row's cost, so a `value` up to that needs no sum.
-fn undercuts(file: &[u8], index: &[u32], values: &[u32], value: u64, r: usize) -> bool
-    requires { RowReady file.now index.now (length values.now) r }
-    ensures { result ≡ ltb (row_value (problem_of file.now) (by_state values.now) r) value }
-{
-    let cost = index[ROWS + 2 * r + 1] as u64;
-    if value <= cost {
-        return false;
-    }
-    let q = row_value(file, index, values, r);
-    q.value < value
-}
-
 // The first state with a row whose value lies below the state's, and its first such row.
 #[derive(Clone, Copy)]
 pub struct Undercut {
@@ -146,28 +124,48 @@ pub struct Undercut {
     pub row: usize,
 }
 
-// "It stops at the first row, states in order, whose value lies below its state's"; state n and row 0 where there is none.
-pub fn first_undercut(file: &[u8], index: &[u32], values: &[u32], n: usize) -> Undercut
-    requires { (Ready file.now index.now) × (n ≡ (problem_of file.now).states) × (n ≤ length values.now) }
-    ensures { Undercuts file.now (by_state values.now) result.state result.row }
-{
-    let mut s = 0;
-    let mut found = 0;
-    'states: while s < n {
-        let value = values[s] as u64;
-        let end = index[s + 1] as usize;
-        let mut r = index[s] as usize;
-        while r < end {
-            if undercuts(file, index, values, value, r) {
-                found = r;
-                break 'states;
-            }
-            r += 1;
-        }
-        s += 1;
+impl Indexed<'_> {
+    // The value of row r under `values`, and the remainder.
+    pub fn row_value(self, values: &[u32], r: usize) -> RowValue
+        requires { ((problem_of self.file.now).states ≤ length values.now) × (r < (problem_of self.file.now).rows) }
+        ensures value_value { result.value ≡ row_value (problem_of self.entry.file.now) (by_state values.now) r }
+        ensures remainder { result.remainder ≡ row_remainder (problem_of self.entry.file.now) (by_state values.now) r }
+    {
+        let from = self.index[ROWS + 2 * r] as usize;
+        let cost = self.index[ROWS + 2 * r + 1];
+        let to = self.index[ROWS + 2 * r + 2] as usize;
+        part_value(self.file, values, from, to, cost, total_of(self.file))
     }
-    Undercut {
-        state: s,
-        row: found,
+
+    // Whether the value of row r lies below `value`. It is at least the row's cost, so a `value` up to that needs no sum.
+    fn undercuts(self, values: &[u32], value: u64, r: usize) -> bool
+        requires { ((problem_of self.file.now).states ≤ length values.now) × (r < (problem_of self.file.now).rows) }
+        ensures { result ≡ ltb (row_value (problem_of self.entry.file.now) (by_state values.now) r) value }
+    {
+        let cost = self.index[ROWS + 2 * r + 1] as u64;
+        if value <= cost {
+            return false;
+        }
+        let q = self.row_value(values, r);
+        q.value < value
+    }
+
+    // "It stops at the first row, states in order, whose value lies below its state's".
+    pub fn first_undercut(self, values: &[u32], n: usize) -> Option<Undercut>
+        requires { (n ≡ (problem_of self.file.now).states) × (n ≤ length values.now) }
+        ensures { FirstUndercut self.entry.file.now (by_state values.now) result }
+    {
+        let mut found = None;
+        'states: for s in 0..n {
+            let value = values[s] as u64;
+            let end = self.index[s + 1] as usize;
+            for r in self.index[s] as usize..end {
+                if self.undercuts(values, value, r) {
+                    found = Some(Undercut { state: s, row: r });
+                    break 'states;
+                }
+            }
+        }
+        found
     }
 }

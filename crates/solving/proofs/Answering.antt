@@ -7,21 +7,21 @@ use mathlib.Core.Bool.{Bool, true, false, true≢false}
 use mathlib.Core.List.{List, []}
 use lib.IntN.{pos}
 use lib.ListN.{get_or, length, take, replicate, length-replicate}
+use Rattle.std.specs.Prelude.{Ok}
+use Rattle.model.specs.Answers.{solve_carries}
 use Rattle.model.specs.Carried.{Carried, refusal}
-use Rattle.model.specs.Limits.{no_pick}
+use Rattle.model.specs.Limits.{no_pick, value_bound}
 use Rattle.model.specs.Problem.{Problem, own_row}
 use Rattle.model.specs.Promises.{Leaves}
 use Rattle.model.specs.Questions.{passes, fails, file_questions}
 use Rattle.model.specs.Sections.{problem_of}
 use Rattle.model.specs.Value.{row_value, by_state}
-use Rattle.model.specs.Rounds.{Machine, run_from, goes_on, run_of, fill_to, machine_start, list_table}
+use Rattle.model.specs.Rounds.{Machine, run_from, goes_on, fill_to, machine_start, list_table}
 use Rattle.model.specs.declared.Kind.{Kind}
 use Rattle.model.specs.Solution.{Tables, tables, solution_of, solution_of_with, solve_questions, solution}
-use Rattle.guarantee.specs.WellFormed.{WellFormed}
-use Rattle.guarantee.specs.WellFormed.{well_formed}
 use Rattle.guarantee.specs.Values.{row_value-same_states}
-use Rattle.guarantee.specs.Tables.{fill_length, fill_entry}
-use Rattle.guarantee.specs.Sound.{Sound}
+use Rattle.guarantee.specs.Tables.{fill_entry}
+use Rattle.guarantee.specs.Sound.{Sound, start_sound}
 use Rattle.guarantee.proofs.RowsFit.{evaluation_fits}
 use Rattle.guarantee.specs.Graphs.{clear_entry}
 use Rattle.guarantee.specs.Rests.{rest_none}
@@ -30,148 +30,126 @@ use Rattle.guarantee.specs.Solutions.{Lent, questions, lent_long, lent_sound, so
 use Rattle.reading.specs.Entries.{code_on}
 use Rattle.reading.specs.RowParts.{own_at_lem}
 use Rattle.reading.specs.Tests.{own_at}
-use Rattle.walking.specs.Walkable.{walkable}
-use Rattle.backing.specs.Backable.{machine, Scannable, Kept}
-use Rattle.solving.specs.declared.run.Ended.{Ended}
-use Rattle.solving.specs.Runs.{machine_with, ended_as, at_first, Runnable, Ran}
-use Rattle.solving.specs.Solvable.{solve_tests, run_carries, Solvable, Unentered}
+use Rattle.backing.specs.Backable.{machine, Kept}
+use Rattle.model.specs.declared.Ended.{Ended}
+use Rattle.model.specs.declared.Ended.TheVariants.{Solved, Spent}
+use Rattle.solving.specs.declared.run.RunDone.{RunDone}
+use Rattle.backing.specs.Scanned.{problem_in}
+use Rattle.reading.specs.declared.problem.Problem as Given
+use Rattle.solving.specs.Lent.{Long}
+use Rattle.solving.specs.Runs.{machine_with, ended_as, counts_of, LeastOf, at_first, Runnable, Ran}
+use Rattle.solving.specs.Solvable.{Solvable, Unentered}
 use Rattle.solving.proofs.Filling.{fill_same}
 
 -- the machine as it starts in lent tables
-abbrev start : List ℕ → Tables → Machine
-start f t = machine_start (problem_of f) t.values t.picks t.remembered
+abbrev start : Problem → Tables → Machine
+start p t = machine_start p t.values t.picks t.remembered
 
-module _ {f index : List ℕ} {budget : ℕ} {t : Tables} (h : Solvable f index budget t) where
-  pub solvable_formed : WellFormed (problem_of f)
-  solvable_formed = well_formed f h.file_passes
+module _ (q : Given.Problem) where
+  abbrev p : Problem
+  p = problem_in q
 
-  pub long : Lent (problem_of f) budget t
-  long = lent_long (problem_of f) budget t h.tables_pass
+  -- "At first V = H, no state has a pick, and each row remembers its value under H." in tables that are long enough
+  module _ {values picks remembered : List ℕ} (long : Long p values picks remembered) where
+    module _ {states : ℕ} {values' : List ℕ} (count : states ≡ p.states) (filled : values' ≡ fill_to p.estimate values states) where
+      -- each row value fits
+      pub start_fits : (r : ℕ) → r < p.rows → row_value p (by_state values') r < value_bound
+      unfolding machine_start
+      start_fits =
+          let same = filled ∙ rw count refl in
+          let sound = start_sound p q.formed values picks remembered long.values_long long.picks_long long.remembered_long in
+          rw same (evaluation_fits p q.formed (machine_start p values picks remembered) sound)
 
-  start_is_sound : Sound (problem_of f) (start f t)
-  start_is_sound = lent_sound f budget t h.file_passes h.tables_pass
+      pub begun
+          : {rows : ℕ} {picks' remembered' : List ℕ} → rows ≡ p.rows → picks' ≡ fill_to (λ s. no_pick) picks states
+          → remembered' ≡ fill_to (row_value p (by_state values')) remembered rows
+          → machine values' picks' remembered' [] 0 true ≡ machine_start p values picks remembered
+      unfolding machine_start
+      begun {remembered' = remembered'} rows cleared kept =
+          let same : remembered' ≡ fill_to (row_value p p.estimate) remembered p.rows =
+          kept ∙ rw rows (fill_same _ _ remembered p.rows under_estimates) in
+          rw (same, filled, cleared, count) refl
+        where
+          -- each row remembers its value under H
+          under_estimates : (r : ℕ) → r < p.rows → row_value p (by_state values') r ≡ row_value p p.estimate r
+          under_estimates =
+              row_value-same_states p q.formed (by_state values') p.estimate
+              (λ s b. rw (filled, count) (fill_entry p.estimate values p.states s long.values_long b))
 
-  -- "At first V = H": rows can be evaluated
-  pub start_scannable
-      : {states : ℕ} {values' : List ℕ} → states ≡ (problem_of f).states
-      → values' ≡ fill_to (problem_of f).estimate t.values states
-      → Scannable f index values' t.remembered
-  unfolding machine_start
-  start_scannable {states} {values'} count filled =
-      let same : values' ≡ (start f t).values = filled ∙ rw count refl in
-      record {
-        ready = h.ready;
-        values_long = rw same (omega (arith, fill_length (problem_of f).estimate t.values (problem_of f).states, long.values_long));
-        remembered_long = long.remembered_long;
-        fits = rw same (evaluation_fits (problem_of f) solvable_formed (start f t) start_is_sound);
-      }
+  module _ {budget : ℕ} {t : Tables} (h : Solvable q.file.now budget t) where
+    pub room : Lent p budget t
+    room = lent_long p budget t h.tables_pass
 
--- the tables as they begin: "At first V = H, no state has a pick, and each row remembers its value under H."
-pub record Started
-    (f index : List ℕ) (budget : ℕ) (t : Tables) (states rows : ℕ) (values' picks' remembered' : List ℕ) : Type 0 where
-  pub solvable : Solvable f index budget t
-  pub states_count : states ≡ (problem_of f).states
-  pub rows_count : rows ≡ (problem_of f).rows
-  pub filled : values' ≡ fill_to (problem_of f).estimate t.values states
-  pub cleared : picks' ≡ fill_to (λ s. no_pick) t.picks states
-  pub kept : remembered' ≡ fill_to (row_value (problem_of f) (by_state values')) t.remembered rows
+    sound : Sound p (start p t)
+    sound = lent_sound q.file.now budget t h.file_passes h.tables_pass
 
-pub tables_begun
-    : {f index : List ℕ} {budget : ℕ} {t : Tables} {states rows : ℕ} {values' picks' remembered' : List ℕ}
-    → Solvable f index budget t → states ≡ (problem_of f).states → rows ≡ (problem_of f).rows → values' ≡ fill_to (problem_of f).estimate t.values states
-    → picks' ≡ fill_to (λ s. no_pick) t.picks states
-    → remembered' ≡ fill_to (row_value (problem_of f) (by_state values')) t.remembered rows
-    → Started f index budget t states rows values' picks' remembered'
-tables_begun h states rows filled cleared kept =
-    record { solvable = h; states_count = states; rows_count = rows; filled = filled; cleared = cleared; kept = kept }
+    -- no state has a pick, so that entries of 0 fit
+    none_picked : (s : ℕ) → s < p.states → get_or (start p t).picks s 0 ≡ no_pick
+    unfolding machine_start
+    none_picked s l = fill_entry (λ s. no_pick) t.picks p.states s room.picks_long l
 
-module _ {f index : List ℕ} {budget : ℕ} {t : Tables} {states rows : ℕ} {values' picks' remembered' : List ℕ}
-    (h : Started f index budget t states rows values' picks' remembered') where
-  formed : WellFormed (problem_of f)
-  formed = solvable_formed h.solvable
-
-  -- each row remembers its value under H
-  under_estimates : (r : ℕ) → r < (problem_of f).rows → row_value (problem_of f) (by_state values') r ≡ row_value (problem_of f) (problem_of f).estimate r
-  under_estimates =
-      row_value-same_states (problem_of f) formed (by_state values') (problem_of f).estimate
-      (λ s b. rw (h.filled, h.states_count) (fill_entry (problem_of f).estimate t.values (problem_of f).states s (long h.solvable).values_long b))
-
-  begun : machine values' picks' remembered' [] 0 true ≡ start f t
-  unfolding machine_start
-  begun =
-      let same : remembered' ≡ fill_to (row_value (problem_of f) (problem_of f).estimate) t.remembered (problem_of f).rows =
-      h.kept ∙ rw h.rows_count (fill_same _ _ t.remembered (problem_of f).rows under_estimates) in
-      rw (same, h.filled, h.cleared, h.states_count) refl
-
-  -- no state has a pick, so that entries of 0 fit
-  none_picked : (s : ℕ) → s < (problem_of f).states → get_or picks' s 0 ≡ no_pick
-  none_picked s l =
-      rw (h.cleared, h.states_count) (fill_entry (λ s. no_pick) t.picks (problem_of f).states s (long h.solvable).picks_long l)
-
-  none_own : (s : ℕ) → s < (problem_of f).states → own_at index s (get_or picks' s 0) ≡ false
-  none_own s l = own_at_lem f index h.solvable.ready s l (get_or picks' s 0) ∙ go (own_row (problem_of f) s (get_or picks' s 0)) refl
-    where
-      go : (b : Bool) → own_row (problem_of f) s (get_or picks' s 0) ≡ b → b ≡ false
-      go true own = absurd (omega (arith, none_picked s l, row_no_mark (problem_of f) formed s (get_or picks' s 0) l own))
-      go false own = refl
-
-  start_kept : {entries : List ℕ} → Unentered f entries → Kept f index picks' remembered' entries
-  start_kept {entries} none =
-      record {
-        entered =
-            record {
-              long = none.long;
-              codes = λ s l. none.clear (2 * s) ∙ sym (ap (λ b. code_on b index (get_or picks' s 0)) (none_own s l));
-            };
-        rests = λ s l. rw (none.clear (2 * s + 1)) (rest_none formed);
-      }
-
-  pub start_runnable
-      : {list entries : List ℕ} → (problem_of f).states ≤ length list → Unentered f entries
-      → Runnable f index (tables values' picks' remembered' list) entries at_first
-  start_runnable list_long none =
-      record {
-        walkable = walkable h.solvable.file_passes h.solvable.ready;
-        sound = subst (Sound (problem_of f)) (sym begun) (lent_sound f budget t h.solvable.file_passes h.solvable.tables_pass);
-        kept = start_kept none;
-        list_long = list_long;
-        fresh = λ e. absurd (true≢false e);
-      }
-
-  -- the run's end, once the lent walk list has what the run listed
-  module _ {kind : Kind} {e : ℕ} {list : List ℕ} {t'' : Tables} {d : Ended} (tolerance : e ≡ (problem_of f).tolerance)
-      (ran : Ran kind (problem_of f) e budget (tables values' picks' remembered' list) t'' d) where
-    abbrev last : Machine
-    last = machine_with t'' (take d.listed t''.walk_list) d.counts.evaluations ran.moved
-
-    run_is : run_of kind (problem_of f) budget t.values t.picks t.remembered ≡ ended_as d.solved d.counts.rounds last
-    run_is =
-        let p = problem_of f in
-        ap (λ m. goes_on kind p budget (run_from p p.tolerance budget true 0 m)) (sym begun)
-        ∙ ap (λ x. goes_on kind p budget (run_from p x budget true 0 (machine values' picks' remembered' [] 0 true))) (sym tolerance)
-        ∙ ran.ends
-
-    solution_is : solution kind f budget t ≡ solution_of (problem_of f) t.walk_list (ended_as d.solved d.counts.rounds last)
-    solution_is =
-        solution_run f budget t h.solvable.file_passes h.solvable.tables_pass kind
-        ∙ ap (solution_of (problem_of f) t.walk_list) run_is
-
-    pub run_leaves
-        : {carried : Carried} {list''' : List ℕ} → list''' ≡ list_table states (take d.listed t''.walk_list) t.walk_list
-        → carried ≡ run_carries d.solved d.counts
-        → Leaves carried (tables t''.values t''.picks t''.remembered list''') (solution kind f budget t)
-    unfolding solution_of_with
-    run_leaves {carried} {list'''} put carries =
-        rw solution_is (go d.solved refl carries)
+    none_own : (s : ℕ) → s < p.states → own_at q.index.now s (get_or (start p t).picks s 0) ≡ false
+    none_own s l =
+        own_at_lem q.file.now q.index.now q.ready s l (get_or (start p t).picks s 0)
+        ∙ go (own_row p s (get_or (start p t).picks s 0)) refl
       where
-        same_list : list''' ≡ list_table (problem_of f).states (take d.listed t''.walk_list) t.walk_list
-        same_list = put ∙ rw h.states_count refl
+        go : (b : Bool) → own_row p s (get_or (start p t).picks s 0) ≡ b → b ≡ false
+        go true own = absurd (omega (arith, none_picked s l, row_no_mark p q.formed s (get_or (start p t).picks s 0) l own))
+        go false own = refl
 
-        go : (b : Bool) → d.solved ≡ b → carried ≡ run_carries b d.counts
-            → Leaves carried (tables t''.values t''.picks t''.remembered list''')
-            (solution_of (problem_of f) t.walk_list (ended_as b d.counts.rounds last))
-        go true q c = record { answer = c ∙ rw (ran.least q) refl; left = rw same_list refl }
-        go false q c = record { answer = c ∙ rw (ran.no_least q) refl; left = rw same_list refl }
+    start_kept : {entries : List ℕ} → Unentered q.file.now entries
+        → Kept q.file.now q.index.now (start p t).picks (start p t).remembered entries
+    start_kept none =
+        record {
+          entered =
+              record {
+                long = none.long;
+                codes = λ s l. none.clear (2 * s) ∙ sym (ap (λ b. code_on b q.index.now (get_or (start p t).picks s 0)) (none_own s l));
+              };
+          rests = λ s l. rw (none.clear (2 * s + 1)) (rest_none q.formed);
+        }
+
+    module _ {values' picks' remembered' list : List ℕ} (begins : machine values' picks' remembered' [] 0 true ≡ start p t) where
+      pub start_runnable
+          : {entries : List ℕ} → p.states ≤ length list → Unentered q.file.now entries
+          → Runnable q (tables values' picks' remembered' list) entries at_first
+      start_runnable {entries} list_long none =
+          subst (λ (m : Machine). Runnable q (tables m.values m.picks m.remembered list) entries at_first) (sym begins)
+          (record {
+            sound = sound;
+            kept = start_kept none;
+            list_long = list_long;
+            fresh = λ e. absurd (true≢false e);
+          })
+
+      -- the run's end, once the lent walk list has what the run listed
+      module _ {kind : Kind} {e : ℕ} {t' : Tables} {d : RunDone} (tolerance : e ≡ p.tolerance)
+          (ran : Ran kind p e budget (tables values' picks' remembered' list) t' d) where
+        abbrev last : Ended → Machine
+        last end = machine_with t' (take d.listed t'.walk_list) (counts_of end).evaluations ran.moved
+
+        solution_is : solution kind q.file.now budget t ≡ solution_of p t.walk_list (ended_as d.ended (last d.ended))
+        solution_is =
+            solution_run q.file.now budget t h.file_passes h.tables_pass kind
+            ∙ ap (λ m. solution_of p t.walk_list (goes_on kind p budget (run_from p p.tolerance budget true 0 m))) (sym begins)
+            ∙ ap (λ x. solution_of p t.walk_list (goes_on kind p budget (run_from p x budget true 0 (machine values' picks' remembered' [] 0 true))))
+            (sym tolerance)
+            ∙ ap (solution_of p t.walk_list) ran.ends
+
+        pub run_leaves
+            : {carried : Carried} {list' : List ℕ} {states : ℕ} → states ≡ p.states
+            → list' ≡ list_table states (take d.listed t'.walk_list) t.walk_list → carried ≡ solve_carries (Ok d.ended)
+            → Leaves carried (tables t'.values t'.picks t'.remembered list') (solution kind q.file.now budget t)
+        unfolding solution_of_with
+        run_leaves {carried} {list'} count put carries = rw solution_is (go d.ended ran.least carries)
+          where
+            same_list : list' ≡ list_table p.states (take d.listed t'.walk_list) t.walk_list
+            same_list = put ∙ rw count refl
+
+            go : (end : Ended) → LeastOf p t'.picks end → carried ≡ solve_carries (Ok end)
+                → Leaves carried (tables t'.values t'.picks t'.remembered list') (solution_of p t.walk_list (ended_as end (last end)))
+            go (Solved counts) least c = record { answer = c ∙ rw (← least) refl; left = rw same_list refl }
+            go (Spent counts) least c = record { answer = c ∙ rw least refl; left = rw same_list refl }
 
 -- entries that were made so, two for each of n states
 pub made_clear : {f : List ℕ} (n : ℕ) → (problem_of f).states ≤ n → Unentered f (replicate (2 * n) 0)
@@ -190,11 +168,3 @@ module _ (kind : Kind) (f : List ℕ) (budget : ℕ) (t : Tables) {q i : ℕ} wh
   pub tables_refused : passes ≡ file_questions f → fails q i ≡ solve_questions (problem_of f) budget t
       → Leaves (refusal q i (pos 0)) t (solution kind f budget t)
   tables_refused h k = refusal_leaves kind f budget t q i (rw (← h) (sym k))
-
--- questions 12 and 13 as tests of lengths
-pub tests_are
-    : (p : Problem) (budget : ℕ) (t : Tables) {states rows : ℕ} → states ≡ p.states → rows ≡ p.rows
-    → solve_tests states rows (length t.values) (length t.picks) (length t.remembered) (length t.walk_list) budget
-    ≡ solve_questions p budget t
-unfolding solve_tests solve_questions
-tests_are p budget t states rows = rw (states, rows) refl

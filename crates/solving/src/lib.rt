@@ -5,3 +5,12 @@
 mod lent;
 mod run;
 pub mod solve;
+
+// The tables that a caller lends: values and picks per state, what each row remembers, and the walk list.
+#[derive(Drop)]
+pub struct Tables<'a> {
+    pub values: &'a mut [u32],
+    pub picks: &'a mut [u16],
+    pub remembered: &'a mut [u32],
+    pub walk: &'a mut [u16],
+}

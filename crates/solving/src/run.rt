@@ -1,38 +1,24 @@
 // The round, and the run: rounds until one moves nothing, or the budget is reached.
 // The walk depends on the picks alone, so that a round after one in which no pick changed goes along the list that is there.
-ghost use Rattle.std.specs.Prelude.{◌≡◌, true, false, [], ◌≤◌, ◌<◌, length};
+ghost use Rattle.std.specs.Prelude.{◌≡◌, true, false, [], ◌≤◌, ◌<◌, length, take};
 ghost use Rattle.model.specs.Limits.{max_budget};
 ghost use Rattle.model.specs.Sections.{problem_of};
-ghost use Rattle.model.specs.Solution.{tables};
 ghost use Rattle.model.specs.Rounds;
+ghost use Rattle.model.specs.Value.{by_state};
+ghost use Rattle.guarantee.specs.Leasts.{least_over};
+ghost use Rattle.walking.specs.Costs.{ListCosted, no_cost};
 ghost use Rattle.walking.specs.Led.{Led, WalkedBy};
-ghost use Rattle.backing.specs.Backable.{count_bound, machine, Termed};
-ghost use Rattle.solving.specs.Runs.{going_on, at_first, Runnable, Rounded, Ran};
+ghost use Rattle.backing.specs.Backable.{count_bound};
+ghost use Rattle.backing.specs.Scanned.{problem_in, machine_of, Same};
+ghost use Rattle.solving.specs.Runs.{tables_with, at_first, Runnable, Rounded, Ran};
 
-use backing::Terms;
-use backing::backup::{Tally, backups};
-use model::{Counts, Kind};
+use backing::backup::Tally;
+use backing::{Memory, Terms};
+use model::{Counts, Ended, Kind};
+use reading::problem::Problem;
 use walking::entered::walk_entries;
 use walking::least::least_listed;
 use walking::walk::MARKS;
-
-// The walk list of a round: where a pick changed since the last walk it is walked anew, else the `listed` states stay.
-fn walk_list(
-    file: &[u8],
-    entries: &[u32],
-    list: &mut [u16; MARKS],
-    listed: usize,
-    turned: bool,
-) -> usize
-    requires { Led file.now entries.now × ((problem_of file.now).states ≤ length list.old)
-        × (turned ≡ false → WalkedBy file.now entries.now list.old listed) }
-    ensures { WalkedBy file.now entries.now list.new result }
-{
-    if turned {
-        return walk_entries(file, entries, list);
-    }
-    listed
-}
 
 // Where a run stands between two rounds: the evaluations so far, how many states the last walk listed, and whether a pick changed since.
 #[derive(Drop)]
@@ -42,151 +28,151 @@ pub struct Standing {
     pub turned: bool,
 }
 
-// A round done: where the run stands, whether something moved, and C where nothing did, else 0.
+impl Standing {
+    // What a run that stands so has counted after so many rounds, with C, or 0 where it is spent.
+    fn counts(&self, rounds: u64, least: u32) -> Counts
+        ensures { (result.rounds ≡ rounds) × (result.evaluations ≡ self.now.count) × (result.least ≡ least) }
+    {
+        Counts {
+            rounds,
+            evaluations: self.count,
+            least,
+        }
+    }
+}
+
+// The walk list of a round: where a pick changed since the last walk it is walked anew, else the listed states stay.
+fn walk_list(file: &[u8], memory: &Memory<'_>, list: &mut [u16; MARKS], before: &Standing) -> usize
+    requires { Led file.now memory.now.entries.now × ((problem_of file.now).states ≤ length list.old)
+        × (before.now.turned ≡ false → WalkedBy file.now memory.now.entries.now list.old before.now.listed) }
+    ensures { WalkedBy file.now memory.now.entries.now list.new result }
+{
+    if before.turned {
+        return walk_entries(file, memory.entries, list);
+    }
+    before.listed
+}
+
+// C, where nothing moved: the least cost of the picks at the listed states.
+fn least_cost(problem: Problem<'_>, memory: &Memory<'_>, list: &[u16; MARKS], listed: usize) -> u32
+    requires { ListCosted problem.file.now problem.index.now memory.now.picks.now list.now listed }
+    ensures { result ≡ least_over (problem_in problem.entry) (by_state memory.now.picks.now) (take listed list.now) no_cost }
+{
+    least_listed(problem, memory.picks, &list[..listed])
+}
+
+// A round done: where the run stands, and C where nothing moved.
 #[derive(Drop)]
 pub struct RoundDone {
     pub standing: Standing,
-    pub moved: bool,
-    pub least: u32,
+    pub quiet: Option<u32>,
 }
 
 // One round: walk with the picks as they are, then back up the listed states. Where nothing moved the picks are still those of the walk,
 // so that its list is the reached states that are no goals.
 fn round(
-    file: &[u8],
-    index: &[u32],
-    entries: &mut [u32],
+    memory: &mut Memory<'_>,
     values: &mut [u32],
-    picks: &mut [u16],
-    remembered: &mut [u32],
     list: &mut [u16; MARKS],
-    terms: Terms,
+    terms: Terms<'_>,
     before: Standing,
 ) -> RoundDone
-    requires { Runnable file.now index.now (tables values.old picks.old remembered.old list.old) entries.old before
-        × Termed (problem_of file.now) terms
+    requires { Runnable terms.problem (tables_with values.old memory.old list.old) memory.old.entries.now before
         × ((Rounds.round
-        (problem_of file.now) terms.tolerance (machine values.old picks.old remembered.old [] before.count true)).evaluations
-        < count_bound) }
-    ensures { Rounded
-        file.now index.now terms.tolerance
-        (tables values.old picks.old remembered.old list.old) before.count
-        (tables values.new picks.new remembered.new list.new) entries.new result }
+        (problem_in terms.problem) terms.tolerance
+        (machine_of values.old memory.old [] before.count true)).evaluations < count_bound) }
+    ensures same { Same memory.old memory.new }
+    ensures rounded { Rounded
+        terms.entry.problem terms.entry.tolerance (tables_with values.old memory.old list.old) before.count
+        (tables_with values.new memory.new list.new) memory.new.entries.now result }
 {
-    let listed = walk_list(file, entries, list, before.listed, before.turned);
+    let listed = walk_list(terms.problem.file, memory, list, &before);
     let t = Tally {
         count: before.count,
         moved: false,
         turned: false,
     };
-    let b = backups(
-        file, index, entries, values, picks, remembered, list, listed, terms, t,
-    );
+    let b = memory.backups(terms, values, &list[..listed], t);
     let standing = Standing {
         count: b.count,
         listed,
         turned: b.turned,
     };
-    let mut least = 0;
-    if !b.moved {
-        least = least_listed(file, index, picks, list, listed);
+    if b.moved {
+        return RoundDone {
+            standing,
+            quiet: None,
+        };
     }
+    let least = least_cost(terms.problem, memory, list, listed);
     RoundDone {
         standing,
-        moved: b.moved,
-        least,
+        quiet: Some(least),
     }
 }
 
-// How a run ended: what it counted, the length of the last walk's list, and whether it was solved.
+// A run done: how it ended, and how many states its last walk listed.
 #[derive(Drop)]
-pub struct Ended {
-    pub counts: Counts,
+pub struct RunDone {
+    pub ended: Ended,
     pub listed: usize,
-    pub solved: bool,
-}
-
-// How a run ends after so many rounds, as solved or as spent.
-fn ending(rounds: u64, standing: Standing, least: u32, solved: bool) -> Ended
-    ensures { (result.counts.rounds ≡ rounds) × (result.counts.evaluations ≡ standing.count) × (result.counts.least ≡ least)
-        × (result.listed ≡ standing.listed) × (result.solved ≡ solved) }
-{
-    let counts = Counts {
-        rounds,
-        evaluations: standing.count,
-        least,
-    };
-    Ended {
-        counts,
-        listed: standing.listed,
-        solved,
-    }
-}
-
-// Whether a run is to go on after its first quiet round.
-fn is_finishing(kind: Kind) -> bool
-    ensures { going_on result ≡ kind }
-{
-    match kind {
-        Kind::Plain => false,
-        Kind::Finishing => true,
-    }
 }
 
 // The terms of a finishing run's second part: "with tolerance 1".
-fn to_the_tick(terms: Terms) -> Terms
-    ensures { (result.tolerance ≡ 1) × (result.give ≡ terms.give) × (result.total ≡ terms.total) }
+// A struct with ghost fields takes no `..terms`.
+fn to_the_tick(mut terms: Terms<'_>) -> Terms<'_>
+    ensures { (result.tolerance ≡ 1) × (result.problem ≡ terms.entry.problem) }
 {
-    Terms {
-        tolerance: 1,
-        give: terms.give,
-        total: terms.total,
-    }
+    terms.tolerance = 1;
+    terms
 }
 
 // Runs rounds with the file's tolerance until one moves nothing; a finishing run goes on from there, with tolerance 1, until the next that
 // moves nothing. At most `budget` rounds are done in all.
 pub fn run(
     kind: Kind,
-    file: &[u8],
-    index: &[u32],
-    entries: &mut [u32],
+    memory: &mut Memory<'_>,
     values: &mut [u32],
-    picks: &mut [u16],
-    remembered: &mut [u32],
     list: &mut [u16; MARKS],
-    terms: Terms,
+    terms: Terms<'_>,
     budget: u64,
-) -> Ended
-    requires { Runnable
-        file.now index.now (tables values.old picks.old remembered.old list.old) entries.old at_first
-        × Termed (problem_of file.now) terms × (budget ≤ max_budget) }
-    ensures { Ran
-        kind (problem_of file.now) terms.tolerance budget
-        (tables values.old picks.old remembered.old list.old)
-        (tables values.new picks.new remembered.new list.new) result }
+) -> RunDone
+    requires { Runnable terms.problem (tables_with values.old memory.old list.old) memory.old.entries.now at_first
+        × (budget ≤ max_budget) }
+    ensures same { Same memory.old memory.new }
+    ensures ran { Ran
+        kind (problem_in terms.entry.problem) terms.entry.tolerance budget (tables_with values.old memory.old list.old)
+        (tables_with values.new memory.new list.new) result }
 {
-    let mut goes_on = is_finishing(kind);
-    let mut goes_by = terms;
-    let mut rounds = 0;
+    // what is left of a finishing run after its first quiet round is a plain run
+    let mut left = kind;
+    let mut by = terms;
     let mut standing = Standing {
         count: 0,
         listed: 0,
         turned: true,
     };
-    while rounds < budget {
-        let r = round(
-            file, index, entries, values, picks, remembered, list, goes_by, standing,
-        );
+    for rounds in 0..budget {
+        let r = round(memory, values, list, by, standing);
         standing = r.standing;
-        rounds += 1;
-        if !r.moved {
-            if !goes_on {
-                return ending(rounds, standing, r.least, true);
-            }
-            goes_on = false;
-            goes_by = to_the_tick(terms);
+        let Some(least) = r.quiet else {
+            continue;
+        };
+        match left {
+            Kind::Plain => {
+                return RunDone {
+                    ended: Ended::Solved(standing.counts(rounds + 1, least)),
+                    listed: standing.listed,
+                };
+            },
+            Kind::Finishing => {
+                left = Kind::Plain;
+                by = to_the_tick(terms);
+            },
         }
     }
-    ending(rounds, standing, 0, false)
+    RunDone {
+        ended: Ended::Spent(standing.counts(budget, 0)),
+        listed: standing.listed,
+    }
 }

@@ -3,131 +3,86 @@
 ghost use Rattle.std.specs.Prelude.{◌≡◌};
 ghost use Rattle.model.specs.Answers.{solve_carries};
 ghost use Rattle.model.specs.Promises.{Leaves, EndsSolved, PassesAudit, FinishesExact};
-ghost use Rattle.model.specs.Solution.{tables, solution};
+ghost use Rattle.model.specs.Solution.{solution};
 ghost use Rattle.model.specs.declared.Kind.TheVariants.{Finishing};
 ghost use Rattle.reading.specs.Room.{IndexRoom};
-ghost use Rattle.solving.specs.Solvable.{run_carries, Solvable, Unentered, FileSolved};
+ghost use Rattle.solving.specs.Lent.{tables_in, tables_left, Same};
+ghost use Rattle.solving.specs.Solvable.{Solvable, Unentered, FileSolved};
 
-use crate::lent::{no_picks, put_list, remember, solve_questions};
-use crate::run::{Ended, run};
-use backing::Terms;
+use crate::Tables;
+use crate::lent::{begin, put_list};
+use crate::run::run;
+use backing::{Memory, Terms};
 use checking::questions::questions;
-use model::{FileAnswer, Kind, LIST_END, MAX_STATES, SolveAnswer};
-use reading::index::{has_few_rows, large_index, small_index};
+use model::{Ended, Kind, LIST_END, MAX_STATES, Refusal};
+use reading::index::with_index;
 use reading::layout::layout_of;
-use reading::settings::{give_up_cost, settings_of};
-use reading::states::estimates;
+use reading::problem::Problem;
 use walking::walk::MARKS;
 
 // A run on a file of at most so many states has few entries, and does not pay for clearing those of states that there are not.
+// Two calls choose: a function that takes the choice as a closure is longer than they are.
 const FEW_STATES: usize = 256;
 
-// The answer of a run that ended.
-fn answer(end: Ended) -> SolveAnswer
-    ensures { solve_carries result ≡ run_carries end.solved end.counts }
-{
-    let counts = end.counts;
-    if end.solved {
-        SolveAnswer::Solved { counts }
-    } else {
-        SolveAnswer::Spent { counts }
-    }
-}
-
-// Solves a file that questions 1 to 13 let through, with entries that are all 0. The walks list into an array of the run's own, and the
-// walk list gets the last.
+// Solves a problem that questions 12 and 13 let through, with entries that are all 0. The walks list into an array of the run's own, and
+// the walk list gets the last.
 fn solve_entered(
     kind: Kind,
-    file: &[u8],
-    index: &[u32],
-    entries: &mut [u32],
+    problem: Problem<'_>,
     budget: u64,
-    values: &mut [u32],
-    picks: &mut [u16],
-    remembered: &mut [u32],
-    list: &mut [u16],
-) -> SolveAnswer
-    requires { Solvable file.now index.now budget (tables values.old picks.old remembered.old list.old)
-        × Unentered file.now entries.old }
+    tables: Tables<'_>,
+    entries: &mut [u32],
+) -> Ended
+    requires { Solvable problem.file.now budget (tables_in tables) × Unentered problem.file.now entries.old }
     ensures { Leaves
-        (solve_carries result) (tables values.new picks.new remembered.new list.new)
-        (solution
-        kind file.now budget
-        (tables values.old picks.old remembered.old list.old)) }
+        (solve_carries (Ok result)) (tables_left tables.exit)
+        (solution kind problem.entry.file.now budget (tables_in tables.entry)) }
 {
-    let l = layout_of(file);
-    let set = settings_of(file);
-    let states = l.states;
-    estimates(file, states, values);
-    no_picks(picks, states);
-    remember(file, index, values, remembered, l.rows);
+    let Tables {
+        values,
+        picks,
+        remembered,
+        walk,
+    } = tables;
+    begin(problem, values, picks, remembered);
+    let set = problem.settings();
     let terms = Terms {
+        problem,
         tolerance: set.tolerance,
-        give: give_up_cost(file),
+        give: problem.give_up_cost(),
         total: set.total,
     };
-    let mut listed = [LIST_END; MARKS];
-    let end = run(
-        kind,
-        file,
-        index,
-        entries,
-        values,
+    let mut memory = Memory {
         picks,
         remembered,
-        &mut listed,
-        terms,
-        budget,
-    );
-    put_list(&listed, end.listed, states, list);
-    answer(end)
+        entries,
+    };
+    let mut list = [LIST_END; MARKS];
+    let done = run(kind, &mut memory, values, &mut list, terms, budget);
+    let l = layout_of(problem.file);
+    put_list(&list, done.listed, l.states, walk);
+    done.ended
 }
 
-// Makes the entries of a run, few for a file of few states, and solves the file.
-fn solve_ready(
-    kind: Kind,
-    file: &[u8],
-    index: &[u32],
-    budget: u64,
-    values: &mut [u32],
-    picks: &mut [u16],
-    remembered: &mut [u32],
-    list: &mut [u16],
-) -> SolveAnswer
-    requires { Solvable file.now index.now budget (tables values.old picks.old remembered.old list.old) }
-    ensures { Leaves
-        (solve_carries result) (tables values.new picks.new remembered.new list.new)
-        (solution
-        kind file.now budget
-        (tables values.old picks.old remembered.old list.old)) }
+// Makes the entries of a run, few for a problem of few states, and solves the problem.
+fn solve_ready(kind: Kind, problem: Problem<'_>, budget: u64, tables: &mut Tables<'_>) -> Ended
+    requires { Solvable problem.file.now budget (tables_in tables.old) }
+    ensures same { Same tables.old tables.new }
+    ensures leaves { Leaves
+        (solve_carries (Ok result)) (tables_in tables.new) (solution kind problem.entry.file.now budget (tables_in tables.old)) }
 {
-    let l = layout_of(file);
+    let l = layout_of(problem.file);
+    // handed over, since the run takes them apart
+    let parts = Tables {
+        values: tables.values,
+        picks: tables.picks,
+        remembered: tables.remembered,
+        walk: tables.walk,
+    };
     if l.states <= FEW_STATES {
-        let mut entries = [0; 2 * FEW_STATES];
-        return solve_entered(
-            kind,
-            file,
-            index,
-            &mut entries,
-            budget,
-            values,
-            picks,
-            remembered,
-            list,
-        );
+        return solve_entered(kind, problem, budget, parts, &mut [0; 2 * FEW_STATES]);
     }
-    let mut entries = [0; 2 * MAX_STATES];
-    solve_entered(
-        kind,
-        file,
-        index,
-        &mut entries,
-        budget,
-        values,
-        picks,
-        remembered,
-        list,
-    )
+    solve_entered(kind, problem, budget, parts, &mut [0; 2 * MAX_STATES])
 }
 
 // Questions 1 to 13 about a file, a budget and four lent tables, and the run where they let it be. The index is that of the file
@@ -136,37 +91,18 @@ pub fn solve_file(
     kind: Kind,
     file: &[u8],
     budget: u64,
-    values: &mut [u32],
-    picks: &mut [u16],
-    remembered: &mut [u32],
-    walk: &mut [u16],
+    tables: &mut Tables<'_>,
     index: &mut [u32],
-) -> SolveAnswer
+) -> Result<Ended, Refusal>
     requires { IndexRoom file.now index.old }
-    ensures { FileSolved
-        kind file.now budget
-        (tables values.old picks.old remembered.old walk.old) index.old
-        index.new (solve_carries result)
-        (tables values.new picks.new remembered.new walk.new) }
+    ensures same { Same tables.old tables.new }
+    ensures solved { FileSolved
+        kind file.now budget (tables_in tables.old) index.old index.new (solve_carries result) (tables_in tables.new) }
 {
-    let about_file = questions(file, index);
-    if let FileAnswer::Refused { question, place } = about_file {
-        return SolveAnswer::Refused { question, place };
-    }
-    let l = layout_of(file);
-    let about_tables = solve_questions(
-        l.states,
-        l.rows,
-        values.len(),
-        picks.len(),
-        remembered.len(),
-        walk.len(),
-        budget,
-    );
-    if let FileAnswer::Refused { question, place } = about_tables {
-        return SolveAnswer::Refused { question, place };
-    }
-    solve_ready(kind, file, index, budget, values, picks, remembered, walk)
+    questions(file, index)?;
+    let problem = Problem { file, index };
+    tables.questions(problem, budget)?;
+    Ok(solve_ready(kind, problem, budget, tables))
 }
 
 // Solves a file within a budget of rounds. The answer and what stands in the lent tables afterwards, entries beyond the counts
@@ -176,34 +112,17 @@ pub fn solve(
     kind: Kind,
     file: &[u8],
     budget: u64,
-    values: &mut [u32],
-    picks: &mut [u16],
-    remembered: &mut [u32],
-    walk: &mut [u16],
-) -> SolveAnswer
+    tables: &mut Tables<'_>,
+) -> Result<Ended, Refusal>
+    ensures same { Same tables.old tables.new }
     ensures leaves { Leaves
-        (solve_carries result) (tables values.new picks.new remembered.new walk.new)
-        (solution
-        kind file.now budget
-        (tables values.old picks.old remembered.old walk.old)) }
-    ensures ending { EndsSolved
-        kind file.now budget
-        (tables values.old picks.old remembered.old walk.old) (solve_carries result) }
-    ensures acceptance { PassesAudit
-        file.now
-        (tables values.new picks.new remembered.new walk.new) (solve_carries result) }
-    ensures exactness { kind ≡ Finishing → FinishesExact
-        file.now
-        (tables values.new picks.new remembered.new walk.new) (solve_carries result) }
+        (solve_carries result) (tables_in tables.new) (solution kind file.now budget (tables_in tables.old)) }
+    ensures ending { EndsSolved kind file.now budget (tables_in tables.old) (solve_carries result) }
+    ensures acceptance { PassesAudit file.now (tables_in tables.new) (solve_carries result) }
+    ensures exactness { kind ≡ Finishing → FinishesExact file.now (tables_in tables.new) (solve_carries result) }
 {
-    if has_few_rows(file) {
-        let mut index = small_index();
-        return solve_file(
-            kind, file, budget, values, picks, remembered, walk, &mut index,
-        );
-    }
-    let mut index = large_index();
-    solve_file(
-        kind, file, budget, values, picks, remembered, walk, &mut index,
+    with_index(
+        file,
+        &mut |index| solve_file(kind, file, budget, tables, index),
     )
 }

@@ -66,17 +66,17 @@ unfolding least_over
 least_over-none p picks list c = refl
 
 -- the loop over a list: the least over the first i states and the next
-module _ {f index picks list : List ℕ} {n limit : ℕ} (h : ListCosted f index picks list n) (limited : limit ≡ give_up_cost (problem_of f)) (i : ℕ)
-    (more : i < n) where
-  list_costs : {r : ℕ} → PickCosts index (get_or picks (get_or list i 0) 0) limit r
-      → r ≡ pick_cost (problem_of f) (by_state picks) (get_or list i 0)
-  list_costs = cost_is h.walkable picks (get_or list i 0) (h.costs i more) limited
+module _ {f index picks list : List ℕ} {n : ℕ} (h : ListCosted f index picks list n) (i : ℕ) (more : i < n) where
+  pub listed_picked : get_or list i 0 < length picks
+  listed_picked = omega (arith, h.listed i more, h.picks_long)
 
-  pub list_more : (c : ℕ) {least r least' : ℕ} → least ≡ least_over (problem_of f) (by_state picks) (take i list) c
+  pub list_more : {limit : ℕ} → limit ≡ give_up_cost (problem_of f) → (c : ℕ) {least r least' : ℕ}
+      → least ≡ least_over (problem_of f) (by_state picks) (take i list) c
       → PickCosts index (get_or picks (get_or list i 0) 0) limit r → least' ≡ min r least
       → least' ≡ least_over (problem_of f) (by_state picks) (take (i + 1) list) c
-  list_more c e q m =
-      let there : i < length list = omega (arith, h.list_long) in
+  list_more limited c {least} {r} e q m =
+      let there : i < length list = omega (arith, more, h.list_long) in
       let last = least_over-snoc (problem_of f) (by_state picks) (take i list) (get_or list i 0) c in
       let longer : take (i + 1) list ≡ take i list ++ (get_or list i 0 ∷ []) = rw add-one (take-suc list i 0 there) in
-      rw (longer, last, ← e, ← list_costs q) m
+      let costs = cost_is h.walkable picks (get_or list i 0) (h.costs i more) limited q in
+      rw (longer, last, ← e, ← costs) m

@@ -1,7 +1,7 @@
--- The visits as the code of both walks makes them, event by event: what each step keeps and leaves, over any graph of states.
+-- The visits as the code makes them, event by event: what each step keeps and leaves, over any graph of states.
 -- Everything but the equation with the model follows from the graph's law at the depth of the unmarked states.
 use mathlib.Core.Path.{◌≡◌, refl, sym, ◌∙◌, ap}
-use Prim.Native.Nat.{ℕ, zero, suc, ◌+◌, ◌-◌, ◌/◌, ◌≤◌, ◌<◌}
+use Prim.Native.Nat.{ℕ, zero, suc, ◌+◌, ◌/◌, ◌≤◌, ◌<◌}
 use native.Mathlib.Numerals.{add-one}
 use native.Mathlib.Omega.{arith}
 use mathlib.Core.Bool.{Bool, true, false}
@@ -10,13 +10,15 @@ use lib.Dec.{eqb}
 use lib.ListN.{get_or, set, length, take, length-set}
 use lib.Seq.{take-suc-set}
 use borrow.Author.Tests.{eq-eqb, ne_eqb}
+use Rattle.std.proofs.Common.{true≢false}
 use Rattle.model.specs.Bytes.{u16_at}
+use Rattle.model.specs.Limits.{max_states}
 use Rattle.model.specs.Sections.{problem_of}
 use Rattle.model.specs.Walk.{Trail, join, visit_on, visit_state, visit_outcomes}
 use Rattle.guarantee.specs.Graphs.{VisitReady, each, unmarked_mark, set_entry, step_none, step_then, state_visited}
-use Rattle.walking.specs.Trails.{Outcomes, leads, leads_from, trail, unmarked_states, AmongStates, Stretch}
+use Rattle.walking.specs.Trails.{OutcomesIn, Told, leads_in, leads_from, trail, unmarked_states, AmongStates, Stretch}
 use Rattle.walking.specs.Trails.{visited_state, visited_outcomes, Under, OverState, OverOutcomes}
-use Rattle.walking.specs.PickedParts.{leads_more, outcomes_more}
+use Rattle.walking.specs.Parts.{leads_more, outcome_state, outcomes_more}
 
 -- a depth of the unmarked states is enough for a visit
 under_ready : {f marks list : List ℕ} {n : ℕ} (graph : ℕ → List ℕ) → Under f marks list n
@@ -54,24 +56,27 @@ module _ {f marks list : List ℕ} {n : ℕ} (u : Under f marks list n) (s : ℕ
       let ready = under_ready graph u in
       rw e at (state_visited _ _ _ _ (λ x h. h) along _ s (trail marks list n) state clear ready).0
 
-  module _ {graph : ℕ → List ℕ} (from to : ℕ) {marks1 list1 : List ℕ} {k : ℕ}
-      (o : OverOutcomes f graph from to (set marks s 1) list n marks1 list1 k) where
+  module _ {graph : ℕ → List ℕ} (part : List ℕ) {marks1 list1 : List ℕ} {k : ℕ}
+      (o : OverOutcomes f graph part (set marks s 1) list n marks1 list1 k) where
     -- there is room to list the state
-    pub list_room : k < (problem_of f).states
+    list_room : k < (problem_of f).states
     list_room = omega (arith, o.room, u.room, mark_left)
 
-    module _ (along : AmongStates f graph) (lead : leads f from to ≡ graph s) where
+    pub list_inside : (problem_of f).states ≤ max_states → k < max_states
+    list_inside h = omega (arith, list_room)
+
+    module _ (among : AmongStates f graph) (led : leads_in part ≡ graph s) where
       state_same : (b : Bool) → (problem_of f).goal s ≡ b → (d : ℕ) → unmarked_states f marks ≤ d
           → visited_state f graph s d (trail marks list n) ≡ join b s (trail marks1 list1 k)
       unfolding visit_state
       state_same b g zero h = absurd (omega (arith, mark_left))
       state_same b g (suc d) h =
-          rw (g, ← lead) (ap (join b s) (o.same d (omega (arith, mark_left))))
+          rw (g, ← led) (ap (join b s) (o.same d (omega (arith, mark_left))))
 
-      pub over_goal : (problem_of f).goal s ≡ true → OverState f graph s marks list n marks1 list1 k
-      over_goal g = record {
+      over_unlisted : (problem_of f).goal s ≡ true → OverState f graph s marks list n marks1 list1 k
+      over_unlisted g = record {
         same = state_same true g;
-        stretch = state_stretch graph along _ (state_same true g _ (omega arith));
+        stretch = state_stretch graph among _ (state_same true g _ (omega arith));
         grows = o.grows;
         room = omega (arith, o.room, mark_left);
         list_long = o.list_long;
@@ -80,7 +85,7 @@ module _ {f marks list : List ℕ} {n : ℕ} (u : Under f marks list n) (s : ℕ
       pub over_listed : (problem_of f).goal s ≡ false → OverState f graph s marks list n marks1 (set list1 k s) (k + 1)
       over_listed g = record {
         same = listed;
-        stretch = state_stretch graph along _ (listed _ (omega arith));
+        stretch = state_stretch graph among _ (listed _ (omega arith));
         grows = omega (arith, o.grows);
         room = omega (arith, o.room, mark_left);
         list_long = omega (arith, length-set list1 k s, o.list_long);
@@ -98,20 +103,31 @@ first_outcome : (visit : ℕ → Trail → Trail) (t : ℕ) (ts : List ℕ) (w :
 unfolding visit_outcomes
 first_outcome visit t ts w b e = ap (λ x. visit_outcomes visit ts (visit_on x visit t w)) e
 
--- The loop over the outcomes from byte `from` up to byte `to`, at byte i: what is left of them completes the whole.
+-- The loop over the outcomes of a part, where `rest` is left of it: what is left completes the whole.
 pub record Looping
-    (f : List ℕ) (graph : ℕ → List ℕ) (from to : ℕ) (marks₀ list₀ : List ℕ) (n : ℕ) (marks list : List ℕ) (i k : ℕ) : Type 0 where
+    (f : List ℕ) (graph : ℕ → List ℕ) (part marks₀ list₀ : List ℕ) (n : ℕ)
+    (marks list : List ℕ) (k : ℕ) (rest : List ℕ) : Type 0 where
   pub under : Under f marks list k
-  pub ahead : Outcomes f i to
+  pub ahead : OutcomesIn f rest
   pub completes : (d : ℕ) → unmarked_states f marks₀ ≤ d
-      → visited_outcomes f graph from to d (trail marks₀ list₀ n) ≡ visited_outcomes f graph i to d (trail marks list k)
+      → visited_outcomes f graph part d (trail marks₀ list₀ n) ≡ visited_outcomes f graph rest d (trail marks list k)
   pub stretch : Stretch f graph (trail marks₀ list₀ n) (trail marks list k)
   pub grows : n ≤ k
   pub room : k + unmarked_states f marks ≤ n + unmarked_states f marks₀
 
-pub loop_start : {f : List ℕ} {graph : ℕ → List ℕ} {marks list : List ℕ} {from to n : ℕ} → Under f marks list n → Outcomes f from to
-    → Looping f graph from to marks list n marks list from n
-loop_start {f} {graph} {marks} {list} {from} {to} {n} u o =
+-- the first outcome of what is left, where it leads, and what is left then
+pub record OneOf (left x rest : List ℕ) (t : ℕ) : Type 0 where
+  pub split : left ≡ x ++ rest
+  pub one : length x ≡ 4
+  pub leads_to : t ≡ u16_at x 0
+
+pub one_of : {left x rest : List ℕ} {size t : ℕ} → (left ≡ x ++ rest) × (length x ≡ size) → size ≡ 4 → t ≡ u16_at x 0
+    → OneOf left x rest t
+one_of h e l = record { split = h.0; one = h.1 ∙ e; leads_to = l }
+
+pub loop_start : {f : List ℕ} {graph : ℕ → List ℕ} {part marks list : List ℕ} {n : ℕ}
+    → Under f marks list n → OutcomesIn f part → Looping f graph part marks list n marks list n part
+loop_start {f} {graph} {part} {marks} {list} {n} u o =
     record {
       under = u;
       ahead = o;
@@ -121,13 +137,13 @@ loop_start {f} {graph} {marks} {list} {from} {to} {n} u o =
       room = omega arith;
     }
 
-module _ {f : List ℕ} {graph : ℕ → List ℕ} {from to : ℕ} {marks₀ list₀ : List ℕ} {n : ℕ} {marks list : List ℕ} {i k : ℕ}
-    (l : Looping f graph from to marks₀ list₀ n marks list i k) where
+module _ {f : List ℕ} {graph : ℕ → List ℕ} {part marks₀ list₀ : List ℕ} {n : ℕ} {marks list : List ℕ} {k : ℕ} where
   -- after the last outcome
-  pub loop_end : to ≤ i → OverOutcomes f graph from to marks₀ list₀ n marks list k
+  pub loop_end : {rest : List ℕ} → Looping f graph part marks₀ list₀ n marks list k rest → length rest < 4
+      → OverOutcomes f graph part marks₀ list₀ n marks list k
   unfolding visit_outcomes leads_from
-  loop_end h =
-      let none : (to - i) / 4 ≡ 0 = omega arith in
+  loop_end {rest} l h =
+      let none : length rest / 4 ≡ 0 = omega arith in
       record {
         same = λ d g. l.completes d g ∙ rw none refl;
         stretch = l.stretch;
@@ -136,23 +152,29 @@ module _ {f : List ℕ} {graph : ℕ → List ℕ} {from to : ℕ} {marks₀ lis
         list_long = l.under.list_long;
       }
 
-  module _ (more : i < to) (t : ℕ) (here : t ≡ u16_at f i) where
-    -- the outcome at byte i, and then the others
+  module _ {left x rest : List ℕ} {t : ℕ} (l : Looping f graph part marks₀ list₀ n marks list k left)
+      (o : OneOf left x rest t) where
+    ahead : OutcomesIn f (x ++ rest)
+    ahead = rw o.split at l.ahead
+
+    pub loop_state : t < (problem_of f).states
+    loop_state = rw o.leads_to (outcome_state x rest ahead o.one)
+
+    -- that outcome, and then the others
     one_outcome : (d : ℕ) (b : Bool) → eqb (get_or marks t 0) 0 ≡ b
-        → visited_outcomes f graph i to d (trail marks list k)
-        ≡ visited_outcomes f graph (i + 4) to d
-        (visit_on b (visit_state (problem_of f).goal graph d) t (trail marks list k))
+        → visited_outcomes f graph left d (trail marks list k)
+        ≡ visited_outcomes f graph rest d (visit_on b (visit_state (problem_of f).goal graph d) t (trail marks list k))
     one_outcome d b e =
         let visit = visit_state (problem_of f).goal graph d in
-        ap (λ ts. visit_outcomes visit ts (trail marks list k)) (rw here (leads_more l.ahead more))
-        ∙ first_outcome visit t (leads f (i + 4) to) (trail marks list k) b e
+        ap (λ ts. visit_outcomes visit ts (trail marks list k)) (rw (o.split, o.leads_to) (leads_more x rest o.one))
+        ∙ first_outcome visit t (leads_in rest) (trail marks list k) b e
 
-    -- the state of the outcome at byte i is marked, and passed over
-    pub loop_pass : (get_or marks t 0 ≡ 0 → ⊥) → Looping f graph from to marks₀ list₀ n marks list (i + 4) k
+    -- its state is marked, and passed over
+    pub loop_pass : (get_or marks t 0 ≡ 0 → ⊥) → Looping f graph part marks₀ list₀ n marks list k rest
     loop_pass h =
         record {
           under = l.under;
-          ahead = outcomes_more l.ahead more;
+          ahead = outcomes_more x rest ahead o.one;
           completes = λ d g. l.completes d g ∙ one_outcome d false (ne_eqb _ _ h);
           stretch = l.stretch;
           grows = l.grows;
@@ -162,23 +184,36 @@ module _ {f : List ℕ} {graph : ℕ → List ℕ} {from to : ℕ} {marks₀ lis
     -- it is not marked, and visited
     pub loop_visit : {marks' list' : List ℕ} {k' : ℕ} → get_or marks t 0 ≡ 0
         → OverState f graph t marks list k marks' list' k'
-        → Looping f graph from to marks₀ list₀ n marks' list' (i + 4) k'
-    loop_visit {marks'} {list'} {k'} clear o =
-        let rest = visited_outcomes f graph (i + 4) to in
+        → Looping f graph part marks₀ list₀ n marks' list' k' rest
+    loop_visit {marks'} {list'} {k'} clear v =
         record {
           under =
               record {
-                list_long = o.list_long;
-                marks_long = omega (arith, l.under.marks_long, o.stretch.long);
-                binary = o.stretch.binary;
-                room = omega (arith, l.under.room, o.room);
+                list_long = v.list_long;
+                marks_long = omega (arith, l.under.marks_long, v.stretch.long);
+                binary = v.stretch.binary;
+                room = omega (arith, l.under.room, v.room);
               };
-          ahead = outcomes_more l.ahead more;
+          ahead = outcomes_more x rest ahead o.one;
           completes =
               λ d g.
               let deep : unmarked_states f marks ≤ d = omega (arith, l.stretch.fewer each) in
-              l.completes d g ∙ one_outcome d true (eq-eqb _ _ clear) ∙ ap (rest d) (o.same d deep);
-          stretch = step_then _ _ _ (λ s. s < (problem_of f).states) _ _ _ l.stretch o.stretch;
-          grows = omega (arith, l.grows, o.grows);
-          room = omega (arith, l.room, o.room);
+              l.completes d g ∙ one_outcome d true (eq-eqb _ _ clear) ∙ ap (visited_outcomes f graph rest d) (v.same d deep);
+          stretch = step_then _ _ _ (λ s. s < (problem_of f).states) _ _ _ l.stretch v.stretch;
+          grows = omega (arith, l.grows, v.grows);
+          room = omega (arith, l.room, v.room);
         }
+
+-- a goal has no outcomes, and is marked and not listed
+pub over_goal : {f marks list : List ℕ} {n : ℕ} (u : Under f marks list n) (s : ℕ)
+    → s < (problem_of f).states → get_or marks s 0 ≡ 0 → {graph : ℕ → List ℕ} → AmongStates f graph → {part : List ℕ} → Told f graph s part → (problem_of f).goal s ≡ true
+    → OverState f graph s marks list n (set marks s 1) list n
+over_goal {f} {marks} {list} {n} u s state clear {graph} among {part} t g =
+    over_unlisted u s state clear part none among t.led g
+  where
+    empty : (l : List ℕ) → (0 < length l → (problem_of f).goal s ≡ false) → length l < 4
+    empty [] h = omega arith
+    empty (x ∷ l) h = absurd (true≢false (sym g ∙ h (omega arith)))
+
+    none : OverOutcomes f graph part (set marks s 1) list n (set marks s 1) list n
+    none = loop_end (loop_start (mark_under u s state clear) t.outcomes) (empty part t.no_goal)

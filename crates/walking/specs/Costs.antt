@@ -1,5 +1,6 @@
 -- What the picks cost, as the index and the lent tables say it.
-use Rattle.std.specs.Prelude.{◌≡◌, ℕ, ◌+◌, ◌*◌, ◌≤◌, ◌<◌, false, ◌&&◌, not, List, ◌⊎◌, eqb, get_or, length}
+use Rattle.std.specs.Prelude.{◌≡◌, ℕ, ◌+◌, ◌*◌, ◌≤◌, ◌<◌, false, ◌&&◌, not, List, ◌⊎◌, eqb, get_or, length, take}
+use Rattle.std.proofs.Common.{arith, get_or-take, length-take-le}
 use Rattle.model.specs.Limits.{give_up}
 use Rattle.model.specs.Sections.{problem_of}
 use Rattle.model.specs.Value.{by_state}
@@ -36,3 +37,18 @@ pub record ListCosted (f index picks list : List ℕ) (n : ℕ) : Type 0 where
   pub listed : (i : ℕ) → i < n → get_or list i 0 < (problem_of f).states
   pub costs : (i : ℕ) → i < n
       → (get_or picks (get_or list i 0) 0 ≡ give_up) ⊎ (get_or picks (get_or list i 0) 0 < (problem_of f).rows)
+
+-- the same of the part of the list with these n states
+pub list_part : {f index picks list : List ℕ} {n : ℕ} → ListCosted f index picks list n
+    → ListCosted f index picks (take n list) (length (take n list))
+list_part {f} {index} {picks} {list} {n} h =
+    let size : length (take n list) ≡ n = length-take-le n list h.list_long in
+    rw size
+    (record {
+      walkable = h.walkable;
+      few = h.few;
+      list_long = omega (arith, size);
+      picks_long = h.picks_long;
+      listed = λ i l. rw (get_or-take n list i 0 l) (h.listed i l);
+      costs = λ i l. rw (get_or-take n list i 0 l) (h.costs i l);
+    })

@@ -7,7 +7,7 @@ use Rattle.model.specs.Value.{by_state}
 use Rattle.model.specs.Walk.{walk}
 use Rattle.guarantee.specs.WellFormed.{WellFormed}
 use Rattle.reading.specs.Entries.{code_in, code_from, code_to}
-use Rattle.walking.specs.Trails.{leads, Outcomes, AmongStates, walk_on}
+use Rattle.walking.specs.Trails.{AmongStates, leads, Outcomes, Along, walk_on}
 
 -- the graph of the entries: where the part that a state's code tells leads
 abbrev pub led_by : List ℕ → List ℕ → ℕ → List ℕ
@@ -23,8 +23,11 @@ pub record Led (f entries : List ℕ) : Type 0 where
   pub no_goal : (s : ℕ) → s < (problem_of f).states → code_from (code_in entries s) < code_to (code_in entries s)
       → (problem_of f).goal s ≡ false
 
+pub led_along : {f entries : List ℕ} → Led f entries → Along f (led_by f entries)
+led_along led = record { whole = led.whole; formed = led.formed; among = λ s t l i. (led.outcomes s l).lead t i }
+
 pub led_among : {f entries : List ℕ} → Led f entries → AmongStates f (led_by f entries)
-led_among led s t l i = (led.outcomes s l).lead t i
+led_among led = (led_along led).among
 
 -- the first r of the list are those of the walk over the entries' graph, and the list has an entry for each state
 pub record WalkedBy (f entries list' : List ℕ) (r : ℕ) : Type 0 where

@@ -1,25 +1,22 @@
 -- The part of the file that a pick's outcomes take: its successors are where the model's graph leads from the state.
 -- Byte by byte along the outcomes, and through the index to the row's part.
-use Rattle.std.specs.Prelude.{◌≡◌, refl, Bool, true, false, not, List, ◌∷◌, map, length, drop}
-use Rattle.std.proofs.Common.{sym, ◌∙◌, ap, ap₂, arith, true≢false, get_or-drop}
+use Rattle.std.specs.Prelude.{◌≡◌, refl, Bool, true, false, not, List, [], ◌∷◌, map, length, drop}
+use Rattle.std.proofs.Common.{sym, ◌∙◌, ap, ap₂, arith, true≢false}
 use Prim.Native.Nat.{ℕ, zero, suc, ◌+◌, ◌-◌, ◌*◌, ◌/◌, ◌≤◌, ◌<◌}
 use Rattle.std.proofs.Math.Bool.{and-false}
 use Rattle.std.proofs.Math.ListN.{get_or}
-use Rattle.model.specs.Bytes.{u16_at}
 use Rattle.model.specs.Problem.{Outcome, end_row, own_row}
 use Rattle.model.specs.Sections.{problem_of, outcome_at, outcome_count_of, outcomes_from}
 use Rattle.model.specs.Value.{by_state}
+use Rattle.model.specs.Bytes.{u16_at}
 use Rattle.model.specs.Walk.{here, there, next, successors}
 use Rattle.guarantee.specs.Walks.{own_row_lem, next_state}
 use Rattle.guarantee.specs.Rows.{own_low, own_high}
-use Rattle.reading.specs.RowParts.{part_begins, part_ends, rows_end, own_at_lem, outcomes_read}
-use Rattle.reading.specs.Tests.{rows_base}
+use Rattle.reading.specs.RowParts.{part_from, part_to, part_begins, part_ends, part_spans, rows_end, own_at_lem, outcomes_read}
+use Rattle.reading.specs.Tests.{rows_base, bytes_between, part_bytes, own_at}
 use Rattle.walking.specs.Walkable.{Walkable}
-use Rattle.walking.specs.Trails.{Picked, leads_from, leads, Outcomes}
-
-u16_drop : (f : List ℕ) (at i : ℕ) → u16_at (drop at f) i ≡ u16_at f (at + i)
-unfolding u16_at
-u16_drop f at i = rw (get_or-drop at f i 0, get_or-drop at f (i + 1) 0) (ap (λ j. get_or f (at + i) 0 + 256 * get_or f j 0) (omega arith))
+use Rattle.walking.specs.Parts.{u16_drop, told}
+use Rattle.walking.specs.Trails.{Picked, leads_from, leads, Outcomes, Told, Along, picked_by}
 
 -- the successors of outcomes that are read from a part of the file
 leads_part : (f : List ℕ) (at i k : ℕ) → map (λ (o : Outcome). o.successor) (outcomes_from (drop at f) i k) ≡ leads_from f (at + 4 * i) k
@@ -27,7 +24,7 @@ unfolding outcomes_from leads_from
 leads_part f at i zero = refl
 leads_part f at i (suc k) = ap₂ ◌∷◌ (u16_drop f at (4 * i)) (leads_part f at (suc i) k ∙ ap (λ j. leads_from f j k) (omega arith))
 
--- one outcome more: the first of a part that is not empty, and the rest of it
+-- one outcome more, by the ends of a part: the first of a part that is not empty, and the rest of it
 module _ {f : List ℕ} {i to : ℕ} (o : Outcomes f i to) (more : i < to) where
   pub leads_more : leads f i to ≡ u16_at f i ∷ leads f (i + 4) to
   unfolding leads_from
@@ -48,6 +45,14 @@ row_leads f r =
     ap (map (λ (o : Outcome). o.successor)) (outcomes_read f r)
     ∙ leads_part f (outcome_at f r) 0 (outcome_count_of f r)
     ∙ ap (λ j. leads_from f j (outcome_count_of f r)) (omega arith)
+
+pub picked_along : {f index : List ℕ} → Walkable f index → (picks : List ℕ) → Along f (picked_by f picks)
+picked_along {f} w picks =
+    record {
+      whole = w.ready.indexed.whole;
+      formed = w.formed;
+      among = next_state (problem_of f) w.formed (by_state picks);
+    }
 
 module _ {f index : List ℕ} (w : Walkable f index) (s : ℕ) (state : s < (problem_of f).states) where
   end_row_lem : get_or index (s + 1) 0 ≡ end_row (problem_of f) s
@@ -130,3 +135,29 @@ module _ {f index : List ℕ} (w : Walkable f index) (s : ℕ) (state : s < (pro
           inside = ends.inside;
           lead = λ t i. next_state (problem_of f) w.formed (by_state picks) s t state (rw picked_leads at i);
         }
+
+  -- what the index tells of a pick is where the graph of the picks leads: where the row is not the state's own, none
+  module _ (picks : List ℕ) where
+    picked_told : {from to : ℕ} → Picked index s (get_or picks s 0) from to
+        → Told f (picked_by f picks) s (bytes_between f from to)
+    picked_told at = told (picked_outcomes picks at) (picked_leads picks at) (picked_open picks at)
+
+    pub stray_told : own_at index s (get_or picks s 0) ≡ false → Told f (picked_by f picks) s []
+    stray_told e =
+        let at : Picked index s (get_or picks s 0) 0 0 =
+        record { own = λ o. absurd (true≢false (sym o ∙ e)); stray = λ o. (refl, refl) } in
+        picked_told at
+
+    module _ (e : own_at index s (get_or picks s 0) ≡ true) where
+      pub own_there : get_or picks s 0 < (problem_of f).rows
+      own_there = own_row_lem (problem_of f) w.formed s _ state (sym (own_at_lem f index w.ready s state _) ∙ e)
+
+      pub own_told : Told f (picked_by f picks) s (part_bytes f (get_or picks s 0))
+      own_told =
+          let r = get_or picks s 0 in
+          let begin = part_begins w.ready.indexed r own_there in
+          let spans = part_spans w.ready.indexed r own_there in
+          let span : part_to index r - part_from index r ≡ 4 * outcome_count_of f r = omega (arith, spans) in
+          let at : Picked index s r (part_from index r) (part_to index r) =
+          record { own = λ o. (refl, refl); stray = λ o. absurd (true≢false (sym e ∙ o)) } in
+          rw (span, begin) at (picked_told at)

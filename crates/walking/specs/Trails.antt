@@ -1,12 +1,15 @@
 -- What the walk's visits ask and promise: marks and list are the model's trail, whatever the depth, if it is at least the
 -- number of unmarked states. One record for what is asked, one for what is promised, over any graph of states.
-use Rattle.std.specs.Prelude.{◌≡◌, ℕ, zero, suc, ◌+◌, ◌-◌, ◌*◌, ◌/◌, ◌≤◌, ◌<◌, true, false, List, [], ◌∷◌, get_or, length, replicate, take}
+use Rattle.std.specs.Prelude.{◌≡◌, ℕ, zero, suc, ◌+◌, ◌-◌, ◌*◌, ◌/◌, ◌≤◌, ◌<◌, true, false}
+use Rattle.std.specs.Prelude.{List, [], ◌∷◌, get_or, length, replicate, take}
 use Rattle.model.specs.Bytes.{u16_at}
 use Rattle.model.specs.Limits.{max_states}
+use Rattle.model.specs.Questions.{passes, layout_questions}
 use Rattle.model.specs.Sections.{problem_of}
 use Rattle.model.specs.Value.{by_state}
 use Rattle.model.specs.Walk.{In, Trail, next, visit_state, visit_outcomes}
 use Rattle.guarantee.specs.Graphs.{Step, unmarked, each}
+use Rattle.guarantee.specs.WellFormed.{WellFormed}
 use Rattle.reading.specs.RowParts.{part_from, part_to}
 use Rattle.reading.specs.Tests.{own_at}
 
@@ -30,6 +33,15 @@ pub record Outcomes (f : List ℕ) (from to : ℕ) : Type 0 where
   pub inside : to ≤ length f
   pub lead : (t : ℕ) → In t (leads f from to) → t < (problem_of f).states
 
+-- the successors of the outcomes that a part consists of
+abbrev pub leads_in : List ℕ → List ℕ
+leads_in part = leads_from part 0 (length part / 4)
+
+-- a part is whole outcomes, and they lead to states
+pub record OutcomesIn (f part : List ℕ) : Type 0 where
+  pub whole : length part ≡ 4 * (length part / 4)
+  pub lead : (t : ℕ) → In t (leads_in part) → t < (problem_of f).states
+
 -- the marks, and the first n of a list
 abbrev pub trail : List ℕ → List ℕ → ℕ → Trail
 trail marks list n = record { marks = marks; list = take n list }
@@ -41,6 +53,18 @@ unmarked_states f marks = unmarked each marks (problem_of f).states
 -- a graph: where each state leads; those on the file's states lead from states to states
 abbrev pub AmongStates : List ℕ → (ℕ → List ℕ) → Type 0
 AmongStates f graph = (s t : ℕ) → s < (problem_of f).states → In t (graph s) → t < (problem_of f).states
+
+-- what leads a walk over a file: its sections are whole and form a problem, and the graph leads from states to states
+pub record Along (f : List ℕ) (graph : ℕ → List ℕ) : Type 0 where
+  pub whole : layout_questions f ≡ passes
+  pub formed : WellFormed (problem_of f)
+  pub among : AmongStates f graph
+
+-- a part of outcomes tells where a graph leads from state s; at a goal it is empty
+pub record Told (f : List ℕ) (graph : ℕ → List ℕ) (s : ℕ) (part : List ℕ) : Type 0 where
+  pub outcomes : OutcomesIn f part
+  pub led : leads_in part ≡ graph s
+  pub no_goal : 0 < length part → (problem_of f).goal s ≡ false
 
 -- the graph of the picks
 abbrev pub picked_by : List ℕ → List ℕ → ℕ → List ℕ
@@ -54,8 +78,8 @@ Stretch f graph = Step (problem_of f).goal graph (problem_of f).states (λ s. s 
 abbrev pub visited_state : List ℕ → (ℕ → List ℕ) → ℕ → ℕ → Trail → Trail
 visited_state f graph s d w = visit_state (problem_of f).goal graph d s w
 
-abbrev pub visited_outcomes : List ℕ → (ℕ → List ℕ) → ℕ → ℕ → ℕ → Trail → Trail
-visited_outcomes f graph from to d w = visit_outcomes (visit_state (problem_of f).goal graph d) (leads f from to) w
+abbrev pub visited_outcomes : List ℕ → (ℕ → List ℕ) → List ℕ → ℕ → Trail → Trail
+visited_outcomes f graph part d w = visit_outcomes (visit_state (problem_of f).goal graph d) (leads_in part) w
 
 -- the model's walk from the start, with clear marks
 abbrev pub walk_on : List ℕ → (ℕ → List ℕ) → Trail
@@ -83,8 +107,8 @@ pub record Over
 abbrev pub OverState : List ℕ → (ℕ → List ℕ) → ℕ → List ℕ → List ℕ → ℕ → List ℕ → List ℕ → ℕ → Type 0
 OverState f graph s = Over f graph (visited_state f graph s)
 
-abbrev pub OverOutcomes : List ℕ → (ℕ → List ℕ) → ℕ → ℕ → List ℕ → List ℕ → ℕ → List ℕ → List ℕ → ℕ → Type 0
-OverOutcomes f graph from to = Over f graph (visited_outcomes f graph from to)
+abbrev pub OverOutcomes : List ℕ → (ℕ → List ℕ) → List ℕ → List ℕ → List ℕ → ℕ → List ℕ → List ℕ → ℕ → Type 0
+OverOutcomes f graph part = Over f graph (visited_outcomes f graph part)
 
 -- what a whole walk leaves
 pub record WalkedOn (f : List ℕ) (graph : ℕ → List ℕ) (marks' list' : List ℕ) (r : ℕ) : Type 0 where

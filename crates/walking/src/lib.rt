@@ -3,4 +3,5 @@
 
 pub mod entered;
 pub mod least;
+mod picked;
 pub mod walk;

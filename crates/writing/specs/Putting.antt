@@ -1,9 +1,12 @@
 -- Laws of text that is put after text into a lent buffer, cut where the buffer ends, and of text for which there is room.
 -- What is cut once is not cut again: the cut of a cut text with more after it is the cut of the whole.
-use Rattle.std.specs.Prelude.{◌≡◌, refl, ℕ, zero, suc, ◌+◌, ◌*◌, ◌≤◌, ◌<◌, min, List, [], ◌∷◌, ◌++◌, length, set, take, drop}
-use Rattle.std.proofs.Common.{sym, ◌∙◌, ap, ap₂, mul-le-mul_left, arith, add-one, append_assoc, append-nil, length-append, length-take, length-drop, take-append-drop, take_all, take_at, take-take, drop_at, length-take-le}
-use Rattle.std.proofs.Math.Seq.{slice, append_snoc}
-use Rattle.std.proofs.lemmas.List.{take-append-le, set_split}
+use Rattle.std.specs.Prelude.{◌≡◌, refl, ℕ, zero, suc, ◌+◌, ◌-◌, ◌*◌, ◌/◌, ◌≤◌, ◌<◌, min, List, [], ◌∷◌, ◌++◌, length, set, take, drop}
+use Rattle.std.proofs.Common.{sym, ◌∙◌, ap, ap₂, mul-le-mul_left, arith, add-one, append_assoc, append-nil, length-append, length-take, length-drop, take-append-drop, take_all, take_at, take-take, drop_at, drop-drop, length-take-le}
+use Rattle.std.proofs.Math.Seq.{slice, append_snoc, take-append-add, drop-append-add}
+use Rattle.std.proofs.Math.Nat.{min_comm}
+use Rattle.std.proofs.lemmas.List.{take-append-le, take_min, drop_all, set_split}
+use borrow.Rule.Slice.PartMut.{put_mid, mid_of}
+use Rattle.std.specs.Int.{w32, to_le_bytes}
 use Rattle.model.specs.Buffers.{Holds, copied}
 use Rattle.model.specs.Bytes.{number_bytes}
 use Rattle.guarantee.specs.Tables.{same_further}
@@ -154,3 +157,71 @@ module _ {text : ℕ → List ℕ} {n : ℕ} {out₀ : List ℕ} {at : ℕ} wher
     -- the buffer is full before all are put
     pub grown_full : (rest : List ℕ) → text n ≡ text k ++ rest → length out ≤ to → Holds out₀ out to (take at out₀ ++ text n)
     grown_full rest e l = rw e (same (append_assoc (take at out₀) (text k) rest) (full rest h.put l))
+
+-- as much of a text as there is room for, stored from a place on
+pub stored
+    : (a : List ℕ) (at k n : ℕ) (text part : List ℕ) → at ≤ length a → k ≡ n → n ≡ min (length text) (length a - at)
+    → part ≡ take n text
+    → Holds a (put_mid at k a part) (at + n) (take at a ++ text)
+stored a at k n text part h e size is =
+    let m = length a - at in
+    let front : length (take at a) ≡ at = length-take-le at a h in
+    let long : length part ≡ n = ap length is ∙ length-take n text ∙ omega (arith, size) in
+    let whole : take m part ≡ take m text =
+    ap (take m) (is ∙ ap (λ j. take j text) (size ∙ min_comm (length text) m) ∙ take_min m text) ∙ take-take m m text (omega arith) in
+    let cut : (l : List ℕ) → take (length a) (take at a ++ l) ≡ take at a ++ take m l =
+    λ l. ap (λ j. take j (take at a ++ l)) (omega (arith, front)) ∙ take-append-add (take at a) l m in
+    let rest : drop k (drop at a) ≡ drop (at + n) a = drop-drop k at a ∙ ap (λ j. drop j a) (omega (arith, e)) in
+    let p = parted (take at a ++ part) (omega (arith, length-append (take at a) part, front, long)) (omega (arith, size))
+    (ap (λ l. take at a ++ (part ++ l)) rest ∙ sym (append_assoc (take at a) part (drop (at + n) a))) in
+    record {
+      long = p.long;
+      within = p.within;
+      front =
+          p.front ∙ ap (λ j. take j (take at a ++ part)) p.long
+          ∙ cut part ∙ ap (λ l. take at a ++ l) whole ∙ sym (cut text)
+          ∙ ap (λ j. take j (take at a ++ text)) (sym p.long);
+      rest = p.rest;
+    }
+
+-- a text that was put on what stands from a place on
+pub behind
+    : (a : List ℕ) (at k : ℕ) {part text : List ℕ} {n : ℕ} → at + k ≡ length a → Holds (mid_of at k a) part n text
+    → Holds a (put_mid at k a part) (at + n) (take at a ++ text)
+behind a at k {part} {text} {n} e h =
+    let all : mid_of at k a ≡ drop at a = take_all k (drop at a) (omega (arith, length-drop at a)) in
+    let none : drop k (drop at a) ≡ [] = drop_all k (drop at a) (omega (arith, length-drop at a)) in
+    let b : List ℕ = take at a ++ part in
+    let same : put_mid at k a part ≡ b = ap (λ l. take at a ++ (part ++ l)) none ∙ ap (λ l. take at a ++ l) (append-nil part) in
+    let front : length (take at a) ≡ at = length-take-le at a (omega arith) in
+    let size : length part ≡ k = h.long ∙ ap length all ∙ omega (arith, length-drop at a) in
+    let long : length b ≡ length a = omega (arith, length-append (take at a) part, front, size) in
+    let is : Holds a b (at + n) (take at a ++ text) =
+    record {
+      long = long;
+      within = omega (arith, long, h.within, size);
+      front =
+          ap (λ j. take j b) (omega (arith, front)) ∙ take-append-add (take at a) part n
+          ∙ ap (λ l. take at a ++ l) h.front
+          ∙ sym (ap (λ j. take j (take at a ++ text)) (omega (arith, front, long, size)) ∙ take-append-add (take at a) text (length part));
+      rest =
+          ap (λ j. drop j b) (omega (arith, front)) ∙ drop-append-add (take at a) part n
+          ∙ h.rest ∙ ap (drop n) all ∙ drop-drop n at a;
+    } in
+    rw (← same) at is
+
+-- the lowest bytes of a number, of which there are no more than so many
+third : (x : ℕ) → x / 65536 ≡ x / 256 / 256
+third x = omega arith
+
+fourth : (x : ℕ) → x / 16777216 ≡ x / 256 / 256 / 256
+fourth x = omega arith
+
+pub low_bytes : (width x : ℕ) → width ≤ 4 → take width (to_le_bytes w32 x) ≡ take width (number_bytes width x)
+unfolding number_bytes
+low_bytes zero x h = refl
+low_bytes (suc zero) x h = refl
+low_bytes (suc (suc zero)) x h = refl
+low_bytes (suc (suc (suc zero))) x h = rw (third x) refl
+low_bytes (suc (suc (suc (suc zero)))) x h = rw (third x, fourth x) refl
+low_bytes (suc (suc (suc (suc (suc n))))) x h = absurd (omega arith)

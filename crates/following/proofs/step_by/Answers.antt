@@ -1,19 +1,20 @@
 -- `step_by` answers the audit's refusal, or what the report's own questions and the move give.
-use borrow.Author.Rules.{rules}
-use mathlib.Core.Path.{◌∙◌, sym, ap}
-use mir.Syntax.{w64}
-use mir.ValLaws.{to_z-of_z}
-use Rattle.model.specs.Answers.{audited_of}
-use Rattle.following.proofs.Moves.{report_refused, report_goes_on}
+use mathlib.Core.Path.{sym}
+use Rattle.std.proofs.lemmas.Result.{err_from_is_err_and}
+use Rattle.guarantee.specs.Accepted.{audit_yes}
+use Rattle.following.proofs.Reports.{report_refused, report_is}
 use Rattle.following.proofs.step_by.Goals as goal
 
-pub returns-in-Refused : goal.returns-in-Refused
-returns-in-Refused c =
-    report_refused c.args.file.now c.args.values.now c.args.picks.now c.args.w
-    (sym c.audit_file-audited.ensures.answer ∙ ap audited_of c.in-Refused.is)
-    (to_z-of_z w64 _ (search rules)) c.turned_down.ensures _
+pub returns-in_err-audit_file : goal.returns-in_err-audit_file
+returns-in_err-audit_file c =
+    let p = err_from_is_err_and c.from_residual.result c.from_residual.ensures.1 in
+    rw (p.1, p.2) (report_refused _ _ _ c.in_err-audit_file.ensures.answer c.args.w _)
+
+pub report_on-requires : goal.report_on-requires
+report_on-requires c =
+    let yes = audit_yes _ _ _ _ (sym c.in_ok-audit_file.ensures.answer) in (yes.values_long, yes.picks_long)
 
 pub returns : goal.returns
 returns c =
-    report_goes_on c.args.file.now c.args.values.now c.args.picks.now c.args.w
-    (sym c.audit_file-audited.ensures.answer ∙ ap audited_of c.in_default.is) _ c.report_on.ensures
+    rw (← report_is _ _ _ c.in_ok-audit_file.ensures.answer c.args.w c.args.outcome)
+    (c.report_on.ensures c.in_ok-audit_file.field-0)

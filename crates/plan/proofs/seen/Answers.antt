@@ -1,10 +1,8 @@
 -- `seen` tells as many bytes as were read, and there is room for more than any table has.
-use mathlib.Core.Path.{ap}
-use lib.ListN.{length}
 use Rattle.plan.proofs.Reading.{shows}
+use Rattle.plan.specs.declared.TheConstants.{LOOK}
 use native.Mathlib.Omega.{arith}
 use Rattle.plan.proofs.seen.Goals as goal
 
 pub returns : goal.returns
-returns c =
-    λ f read. rw (ap length c.front-got.ensures) (shows f c.args.bytes.now c.args.read read (omega (arith, c.front-got.type_inv)))
+returns c = λ f read. shows f _ LOOK read (omega arith)

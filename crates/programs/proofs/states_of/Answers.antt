@@ -1,30 +1,15 @@
 -- `states_of` answers the number of states that the layout has, where the file was run.
-use mathlib.Core.Path.{◌∙◌, sym, ap}
-use Rattle.model.specs.Answers.{answer_of}
+use mathlib.Core.Path.{refl, ◌∙◌}
 use Rattle.model.specs.Lines.{run_states}
-use Rattle.model.specs.Sections.{problem_of}
-use Rattle.programs.proofs.Planning.{solved_passes, spent_passes}
+use Rattle.programs.proofs.Planning.{ended_passes, ended_states}
 use Rattle.programs.proofs.states_of.Goals as goal
 
-pub layout_of-l-requires : goal.layout_of-l-requires
-layout_of-l-requires c = solved_passes c.requires (ap answer_of c.in-Solved.is)
+pub layout_of-requires : goal.layout_of-requires
+layout_of-requires c = ended_passes _ (rw c.in-Ok.is at c.requires)
 
-pub layout_of-l-requires-in-Spent : goal.layout_of-l-requires-in-Spent
-layout_of-l-requires-in-Spent c = spent_passes c.requires (ap answer_of c.in-Spent.is)
+pub returns-in-Ok : goal.returns-in-Ok
+returns-in-Ok c = rw c.in-Ok.is (c.layout_of.ensures.states_are ∙ ended_states _ _)
 
-pub returns-in-Solved : goal.returns-in-Solved
+pub returns-in-Err : goal.returns-in-Err
 unfolding run_states
-returns-in-Solved c =
-    c.layout_of-l.ensures.states_are
-    ∙ sym (ap (λ a. run_states (answer_of a) (problem_of c.args.file.now).states) c.in-Solved.is)
-
-pub returns-in-Spent : goal.returns-in-Spent
-unfolding run_states
-returns-in-Spent c =
-    c.layout_of-l-in-Spent.ensures.states_are
-    ∙ sym (ap (λ a. run_states (answer_of a) (problem_of c.args.file.now).states) c.in-Spent.is)
-
-pub returns-in-Refused : goal.returns-in-Refused
-unfolding run_states
-returns-in-Refused c =
-    sym (ap (λ a. run_states (answer_of a) (problem_of c.args.file.now).states) c.in-Refused.is)
+returns-in-Err c = rw c.in-Err.is refl

@@ -1,84 +1,76 @@
 -- `sections` answers questions 1 to 3 in order: each return rewrites the chain with what the sections before it answered.
+use Rattle.std.proofs.Common.{refl}
+use Rattle.std.proofs.lemmas.Result.{err_from_is_err_and}
 use borrow.Author.Tests.{eq-eqb, ne_eqb}
-use mathlib.Core.Path.{refl, ◌∙◌, sym}
 use Rattle.model.specs.Questions.{layout_questions_within, end_question}
-use Rattle.reading.specs.Begins.{states_at-is, rows_at-is, outcomes_at-is, file_end-is}
-use Rattle.checking.proofs.SectionAnswers.{section_passes, section_fails, section_holds}
-use native.Mathlib.Omega.{arith}
+use Rattle.model.specs.Sections.{states_at, rows_at, outcomes_at, file_end}
 use Rattle.checking.proofs.sections.sections.Goals as goal
 
-pub returns-then-q0-ne0 : goal.returns-then-q0-ne0
+pub returns-in_err-states : goal.returns-in_err-states
 unfolding layout_questions_within
-returns-then-q0-ne0 c = rw (section_fails c.section-q0.ensures refl 0 c.if-q0-ne0.true)
+returns-in_err-states c =
+    let p = err_from_is_err_and c.from_residual.result c.from_residual.ensures.1 in
+    rw (p.1, p.2, ← c.in_err-states.ensures.verdict) refl
 
-pub section_end-i1-requires : goal.section_end-i1-requires
-section_end-i1-requires c = let t = section_holds c.section-q0.ensures c.if-q0-ne0.false in omega arith
+pub returns-in_err-rows : goal.returns-in_err-rows
+unfolding layout_questions_within states_at
+returns-in_err-rows c =
+    let p = err_from_is_err_and c.from_residual-in_err-rows.result c.from_residual-in_err-rows.ensures.1 in
+    let a = c.in_ok-states.ensures in
+    rw (p.1, p.2, ← a.verdict, ← a.ends.0, ← c.in_err-rows.ensures.verdict) refl
 
-pub section-q1-requires : goal.section-q1-requires
-section-q1-requires c = let t = section_holds c.section-q0.ensures c.if-q0-ne0.false in omega arith
+pub returns-in_err-outcomes : goal.returns-in_err-outcomes
+unfolding layout_questions_within states_at rows_at
+returns-in_err-outcomes c =
+    let p = err_from_is_err_and c.from_residual-in_err-outcomes.result c.from_residual-in_err-outcomes.ensures.1 in
+    let a = c.in_ok-states.ensures in
+    let b = c.in_ok-rows.ensures in
+    rw (p.1, p.2, ← a.verdict, ← a.ends.0, ← b.verdict, ← b.ends.0, ← c.in_err-outcomes.ensures.verdict) refl
 
-pub returns-then-q1-ne0 : goal.returns-then-q1-ne0
-unfolding layout_questions_within
-returns-then-q1-ne0 c =
-    let p0 = section_passes c.section-q0.ensures refl 0 c.if-q0-ne0.false in
-    let i1 = states_at-is _ _ c.section_end-i1.ensures in
-    rw (p0, section_fails c.section-q1.ensures i1 1 c.if-q1-ne0.true)
+pub returns-in_err-end : goal.returns-in_err-end
+unfolding layout_questions_within states_at rows_at outcomes_at
+returns-in_err-end c =
+    let p = err_from_is_err_and c.from_residual-in_err-end.result c.from_residual-in_err-end.ensures.1 in
+    let a = c.in_ok-states.ensures in
+    let b = c.in_ok-rows.ensures in
+    let d = c.in_ok-outcomes.ensures in
+    rw (p.1, p.2, ← a.verdict, ← a.ends.0, ← b.verdict, ← b.ends.0, ← d.verdict, ← d.ends.0, ← c.in_err-end.ensures.verdict) refl
 
-pub section_end-i2-requires : goal.section_end-i2-requires
-section_end-i2-requires c = let t = section_holds c.section-q1.ensures c.if-q1-ne0.false in omega arith
+pub returns-then-end-file : goal.returns-then-end-file
+unfolding layout_questions_within states_at rows_at outcomes_at end_question file_end
+returns-then-end-file c =
+    let a = c.in_ok-states.ensures in
+    let b = c.in_ok-rows.ensures in
+    let d = c.in_ok-outcomes.ensures in
+    let e = c.in_ok-end.ensures in
+    rw (
+      ← a.verdict,
+      ← a.ends.0,
+      ← b.verdict,
+      ← b.ends.0,
+      ← d.verdict,
+      ← d.ends.0,
+      ← e.verdict,
+      ← e.ends.0,
+      ne_eqb _ _ c.if-end-file.true,
+      c.at.ensures,
+    ) refl
 
-pub section-q2-requires : goal.section-q2-requires
-section-q2-requires c = let t = section_holds c.section-q1.ensures c.if-q1-ne0.false in omega arith
-
-pub returns-then-q2-ne0 : goal.returns-then-q2-ne0
-unfolding layout_questions_within
-returns-then-q2-ne0 c =
-    let p0 = section_passes c.section-q0.ensures refl 0 c.if-q0-ne0.false in
-    let i1 = states_at-is _ _ c.section_end-i1.ensures in
-    let p1 = section_passes c.section-q1.ensures i1 1 c.if-q1-ne0.false in
-    let i2 = rows_at-is _ _ _ c.section_end-i2.ensures i1 in
-    rw (p0, p1, section_fails c.section-q2.ensures i2 2 c.if-q2-ne0.true)
-
-pub section_end-i3-requires : goal.section_end-i3-requires
-section_end-i3-requires c = let t = section_holds c.section-q2.ensures c.if-q2-ne0.false in omega arith
-
-pub section-q3-requires : goal.section-q3-requires
-section-q3-requires c = let t = section_holds c.section-q2.ensures c.if-q2-ne0.false in omega arith
-
-pub returns-then-q3-ne0 : goal.returns-then-q3-ne0
-unfolding layout_questions_within
-returns-then-q3-ne0 c =
-    let p0 = section_passes c.section-q0.ensures refl 0 c.if-q0-ne0.false in
-    let i1 = states_at-is _ _ c.section_end-i1.ensures in
-    let p1 = section_passes c.section-q1.ensures i1 1 c.if-q1-ne0.false in
-    let i2 = rows_at-is _ _ _ c.section_end-i2.ensures i1 in
-    let p2 = section_passes c.section-q2.ensures i2 2 c.if-q2-ne0.false in
-    let i3 = outcomes_at-is _ _ _ c.section_end-i3.ensures i2 in
-    rw (p0, p1, p2, section_fails c.section-q3.ensures i3 3 c.if-q3-ne0.true)
-
-pub section_end-requires : goal.section_end-requires
-section_end-requires c = let t = section_holds c.section-q3.ensures c.if-q3-ne0.false in omega arith
-
-pub returns-then-section_end-file : goal.returns-then-section_end-file
-unfolding layout_questions_within end_question
-returns-then-section_end-file c =
-    let p0 = section_passes c.section-q0.ensures refl 0 c.if-q0-ne0.false in
-    let i1 = states_at-is _ _ c.section_end-i1.ensures in
-    let p1 = section_passes c.section-q1.ensures i1 1 c.if-q1-ne0.false in
-    let i2 = rows_at-is _ _ _ c.section_end-i2.ensures i1 in
-    let p2 = section_passes c.section-q2.ensures i2 2 c.if-q2-ne0.false in
-    let i3 = outcomes_at-is _ _ _ c.section_end-i3.ensures i2 in
-    let p3 = section_passes c.section-q3.ensures i3 3 c.if-q3-ne0.false in
-    rw (p0, p1, p2, p3, eq-eqb _ _ (sym (file_end-is _ _ _ c.section_end.ensures i3) ∙ c.if-section_end-file.true))
-
-pub returns-else-section_end-file : goal.returns-else-section_end-file
-unfolding layout_questions_within end_question
-returns-else-section_end-file c =
-    let p0 = section_passes c.section-q0.ensures refl 0 c.if-q0-ne0.false in
-    let i1 = states_at-is _ _ c.section_end-i1.ensures in
-    let p1 = section_passes c.section-q1.ensures i1 1 c.if-q1-ne0.false in
-    let i2 = rows_at-is _ _ _ c.section_end-i2.ensures i1 in
-    let p2 = section_passes c.section-q2.ensures i2 2 c.if-q2-ne0.false in
-    let i3 = outcomes_at-is _ _ _ c.section_end-i3.ensures i2 in
-    let p3 = section_passes c.section-q3.ensures i3 3 c.if-q3-ne0.false in
-    rw (p0, p1, p2, p3, ne_eqb _ _ (λ t. c.if-section_end-file.false (file_end-is _ _ _ c.section_end.ensures i3 ∙ t)))
+pub returns : goal.returns
+unfolding layout_questions_within states_at rows_at outcomes_at end_question file_end
+returns c =
+    let a = c.in_ok-states.ensures in
+    let b = c.in_ok-rows.ensures in
+    let d = c.in_ok-outcomes.ensures in
+    let e = c.in_ok-end.ensures in
+    rw (
+      ← a.verdict,
+      ← a.ends.0,
+      ← b.verdict,
+      ← b.ends.0,
+      ← d.verdict,
+      ← d.ends.0,
+      ← e.verdict,
+      ← e.ends.0,
+      eq-eqb _ _ c.if-end-file.false,
+    ) refl

@@ -1,14 +1,8 @@
--- `put_number` puts the digits that `io::decimal` makes, which are the model's.
-use mathlib.Core.Path.{◌∙◌, ap}
-use mathlib.Core.List.{◌++◌}
-use lib.ListN.{take}
+-- `put_number` puts the digits that std makes, which are the model's.
+use Rattle.std.proofs.Common.{◌∙◌, sym, arith}
 use Rattle.printing.proofs.Digits.{decimal_digits}
-use Rattle.writing.specs.Putting.{same}
+use Rattle.writing.specs.Pages.{puts_same}
 use Rattle.printing.proofs.decimals.put_number.Goals as goal
 
 pub returns : goal.returns
-returns c =
-    same
-    (ap (λ t. take c.args.at c.args.out.now ++ t)
-    (c.decimal-k.ensures.digits ∙ decimal_digits _ _ c.decimal-k.ensures.len))
-    c.put.ensures
+returns c = puts_same (c.as_bytes.ensures.value ∙ c.format.ensures.text ∙ sym (decimal_digits c.args.n (omega arith))) c.put.ensures

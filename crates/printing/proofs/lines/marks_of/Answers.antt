@@ -1,32 +1,19 @@
 -- `marks_of` marks the listed states: a state is listed exactly where it is marked, or stands in what is left of the list.
-use Prim.Native.Nat.{ℕ}
-use lib.ListN.{length-set, length-replicate}
-use Rattle.model.specs.Limits.{max_states}
 use Rattle.printing.proofs.Listing.{marks_start, marks_go_on, marks_skip, marks_end}
-use native.Mathlib.Omega.{arith}
 use Rattle.printing.proofs.lines.marks_of.Goals as goal
+use Rattle.printing.proofs.lines.marks_of.Goals.{then-s-lt-MAX_STATES, else-s-lt-MAX_STATES}
 
-pub loop-k-init : goal.loop-k-init
-loop-k-init c = (omega arith, length-replicate {A = ℕ} max_states 0, marks_start _)
+pub loop-s-init : goal.loop-s-init
+loop-s-init c = marks_start _
 
-pub loop-k-preserved-then-s-lt-MAX_STATES : goal.loop-k-preserved-then-s-lt-MAX_STATES
-loop-k-preserved-then-s-lt-MAX_STATES c = (
-  omega (arith, c.loop-k-test.true),
-  simp length-set c.loop-k.invariant.1,
-  marks_go_on c.args.walk.now c.loop-k.marks c.loop-k.k c.loop-k.invariant.2 c.loop-k-test.true
-      (omega (arith, c.loop-k.invariant.1, c.if-s-lt-MAX_STATES.true)),
-)
-
-pub loop-k-preserved : goal.loop-k-preserved
-loop-k-preserved c = (
-  omega (arith, c.loop-k-test.true),
-  c.loop-k.invariant.1,
-  marks_skip c.args.walk.now c.loop-k.marks c.loop-k.k c.loop-k.invariant.2 c.loop-k-test.true c.if-s-lt-MAX_STATES.false,
-)
+pub loop-s-preserved : goal.loop-s-preserved
+loop-s-preserved c =
+    elim c.if-s-lt-MAX_STATES.branch [
+      | then-s-lt-MAX_STATES w ↦
+          rw w.marks-is (marks_go_on _ c.loop-s.invariant _ c.from-s.ensures c.loop-s-test.true w.if-s-lt-MAX_STATES.true)
+      | else-s-lt-MAX_STATES w ↦
+          rw w.marks-is (marks_skip _ c.loop-s.invariant _ c.from-s.ensures c.loop-s-test.true w.if-s-lt-MAX_STATES.false)
+    ]
 
 pub returns : goal.returns
-returns c =
-    record {
-      size = c.loop-k.invariant.1;
-      tells = marks_end c.args.walk.now c.loop-k.marks c.loop-k.k c.loop-k.invariant.2 c.loop-k-test.false;
-    }
+returns c = marks_end _ c.loop-s.invariant c.loop-s-test.false

@@ -1,12 +1,13 @@
--- `plan_text` puts the answer's line and then those of the states.
-use Rattle.printing.proofs.Lengths.{run_most}
-use Rattle.writing.specs.Putting.{more}
-use native.Mathlib.Omega.{arith}
+-- `plan_text` begins a page and puts the answer's line and then those of the states.
+use Rattle.std.proofs.Common.{arith, rules, length-append}
+use Rattle.writing.specs.Pages.{puts_more, puts_whole}
 use Rattle.printing.proofs.lines.plan_text.Goals as goal
 
 pub returns : goal.returns
-returns c = record {
-  holds = more _ c.put_answer-first.ensures.holds c.put_states.ensures;
-  brief = run_most _ _ _ _ (λ j. omega (arith, c.shared_slice_known-1.given j)) (λ j. omega (arith, c.shared_slice_known-2-1.given j)) _ _
-      c.put_answer-first.ensures.brief c.requires.remainders_low;
-}
+returns c =
+    let put = puts_more c.put_answer.ensures.puts c.put_states.ensures.puts in
+    let whole = puts_whole c.new-page.ensures.value c.new-page.ensures.empty put c.len.ensures in
+    record {
+      holds = search (rules, whole);
+      brief = λ few. simp length-append (omega (arith, c.put_answer.ensures.brief, c.put_states.ensures.brief));
+    }

@@ -1,32 +1,24 @@
 -- `put_answer` puts the line of each kind of answer.
-use mathlib.Core.Path.{sym, ap}
-use Rattle.model.specs.Answers.{answer_of}
+use Rattle.std.proofs.Common.{arith}
 use Rattle.model.specs.Lines.{answer_line}
-use Rattle.printing.proofs.Lengths.{solved_most, spent_most, refused_most}
-use Rattle.writing.specs.Putting.{same}
-use native.Mathlib.Omega.{arith}
 use Rattle.printing.proofs.lines.put_answer.Goals as goal
 
-pub returns-in-Solved : goal.returns-in-Solved
+pub returns-in-Ok-Solved : goal.returns-in-Ok-Solved
 unfolding answer_line
-returns-in-Solved c =
-    record {
-      holds = same (sym (ap (λ a. answer_line (answer_of a)) c.in-Solved.is)) c.put_three.ensures;
-      brief = rw c.in-Solved.is (solved_most _ (omega arith) (omega arith) (omega arith));
-    }
+returns-in-Ok-Solved c =
+    let line = rw c.into.ensures at c.put_line.ensures in
+    let solved = rw c.in-Ok-Solved.is at c.in-Ok-Solved.field-0-is in
+    rw (c.in-Ok-Solved.is, solved) (record { puts = line.puts; brief = omega (arith, line.brief) })
 
-pub returns-in-Spent : goal.returns-in-Spent
+pub returns-in-Ok-Spent : goal.returns-in-Ok-Spent
 unfolding answer_line
-returns-in-Spent c =
-    record {
-      holds = same (sym (ap (λ a. answer_line (answer_of a)) c.in-Spent.is)) c.put_two.ensures;
-      brief = rw c.in-Spent.is (spent_most c.in-Spent.counts (omega arith) (omega arith));
-    }
+returns-in-Ok-Spent c =
+    let line = c.put_line-in-Ok-Spent.ensures in
+    let spent = rw c.in-Ok-Spent.is at c.in-Ok-Spent.field-0-is in
+    rw (c.in-Ok-Spent.is, spent) (record { puts = line.puts; brief = omega (arith, line.brief) })
 
-pub returns-in-Refused : goal.returns-in-Refused
+pub returns-in-Err : goal.returns-in-Err
 unfolding answer_line
-returns-in-Refused c =
-    record {
-      holds = same (sym (ap (λ a. answer_line (answer_of a)) c.in-Refused.is)) c.put_two-in-Refused.ensures;
-      brief = rw c.in-Refused.is (refused_most _ _ (omega arith) (omega arith));
-    }
+returns-in-Err c =
+    let line = rw (c.into-in-Err.ensures, c.number.ensures, c.into-in-Err-2.ensures) at c.put_line-in-Err.ensures in
+    rw c.in-Err.is (record { puts = line.puts; brief = omega (arith, line.brief) })

@@ -4,10 +4,10 @@ use native.Mathlib.Omega.{arith}
 use Rattle.programs.proofs.remainders.pick_remainder.Goals as goal
 
 pub returns-then-rows-r : goal.returns-then-rows-r
-returns-then-rows-r c = none_left _ _ _ (omega (arith, c.if-rows-r.true, c.requires.rows_are))
+returns-then-rows-r c = none_left _ _ _ (omega arith)
 
 pub overflow_cast-result : goal.overflow_cast-result
-overflow_cast-result c = omega (arith, remainder_fits _ c.requires.ready.total_known _ _ c.row_value-q.ensures.remainder)
+overflow_cast-result c = omega (arith, remainder_fits _ c.args.problem.ready.total_known _ _ c.row_value.ensures.remainder)
 
 pub returns : goal.returns
-returns c = row_left _ _ _ (omega (arith, c.if-rows-r.false, c.requires.rows_are)) c.row_value-q.ensures.remainder
+returns c = row_left _ _ _ (omega arith) c.row_value.ensures.remainder

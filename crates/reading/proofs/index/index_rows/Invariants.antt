@@ -1,6 +1,5 @@
 -- `index_rows` fills in the rows. So far the total is the sum and the entries are made; a row's number of outcomes is a byte.
-use Prim.Native.Nat.{◌≤◌, ◌-◌, ◌*◌, ◌+◌}
-use lib.ListN.{length}
+use Prim.Native.Nat.{◌≤◌, ◌*◌, ◌+◌}
 use mathlib.Core.Path.{◌≡◌}
 use Rattle.model.specs.Search.{sum_to}
 use Rattle.reading.specs.Bounds.{max_byte}
@@ -9,11 +8,6 @@ use Rattle.reading.proofs.index.index_rows.Given as goal
 
 abbrev pub invariant-loop-r : goal.invariant-loop-r
 invariant-loop-r l =
-    (l.r ≤ l.n)
-    × (l.total ≤ max_byte * l.r)
+    (l.total ≤ max_byte * l.r)
     × (l.total ≡ sum_to (outcome_count_at l.file l.at) l.r)
     × (l.index ≡ row_entries (λ k. l.at3 + 4 * sum_to (outcome_count_at l.file l.at) k) (ticks_at l.file l.at) l.initial.index l.r)
-    × (length l.index ≡ length l.initial.index)
-
-abbrev pub decreases-loop-r : goal.decreases-loop-r
-decreases-loop-r l = l.n - l.r

@@ -1,6 +1,5 @@
 -- `index_states` fills in the first rows. So far the total is the sum and the table is filled; a state's row number is a byte.
-use Prim.Native.Nat.{◌≤◌, ◌-◌, ◌*◌}
-use lib.ListN.{length}
+use Prim.Native.Nat.{◌≤◌, ◌*◌}
 use mathlib.Core.Path.{◌≡◌}
 use Rattle.model.specs.Search.{sum_to}
 use Rattle.model.specs.Rounds.{fill_to}
@@ -10,11 +9,6 @@ use Rattle.reading.proofs.index.index_states.Given as goal
 
 abbrev pub invariant-loop-s : goal.invariant-loop-s
 invariant-loop-s l =
-    (l.s ≤ l.n)
-    × (l.total ≤ max_byte * l.s)
+    (l.total ≤ max_byte * l.s)
     × (l.total ≡ sum_to (row_count_at l.file l.at) l.s)
     × (l.index ≡ fill_to (sum_to (row_count_at l.file l.at)) l.initial.index l.s)
-    × (length l.index ≡ length l.initial.index)
-
-abbrev pub decreases-loop-s : goal.decreases-loop-s
-decreases-loop-s l = l.n - l.s

@@ -6,10 +6,10 @@ use native.Mathlib.Omega.{arith}
 use Rattle.reading.proofs.index.ticks.Goals as goal
 
 pub overflow_mul-result : goal.overflow_mul-result
-overflow_mul-result c = let h = seconds_fit _ _ c.requires.1 c.if-kind-eq0.true in omega arith
+overflow_mul-result c = let h = seconds_fit _ _ c.requires c.if-kind-eq0.true in omega arith
 
 pub rate_seconds-requires : goal.rate_seconds-requires
-rate_seconds-requires c = let h = rate_fits _ _ c.requires.1 c.if-kind-eq0.false in (c.requires.0, h.0, h.1)
+rate_seconds-requires c = let h = rate_fits _ _ c.requires c.if-kind-eq0.false in (h.0, h.1)
 
 pub returns-then-kind-eq0 : goal.returns-then-kind-eq0
 unfolding seconds_on
@@ -17,4 +17,4 @@ returns-then-kind-eq0 c = rw (eq-eqb _ _ c.if-kind-eq0.true)
 
 pub returns-else-kind-eq0 : goal.returns-else-kind-eq0
 unfolding seconds_on
-returns-else-kind-eq0 c = rw (ne_eqb _ _ c.if-kind-eq0.false, c.rate_seconds.ensures)
+returns-else-kind-eq0 c = rw (ne_eqb _ _ c.if-kind-eq0.false, c.from.ensures, c.rate_seconds.ensures)

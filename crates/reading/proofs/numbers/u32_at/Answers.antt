@@ -1,8 +1,8 @@
 -- `u32_at` answers the four bytes' number. The definition is opened at the return.
-use Rattle.model.specs.Bytes.{u32_at}
+use Rattle.model.specs.Bytes.{u16_at, u32_at}
 use borrow.Author.Rules.{rules}
 use Rattle.reading.proofs.numbers.u32_at.Goals as goal
 
 pub returns : goal.returns
-unfolding u32_at
+unfolding u16_at u32_at
 returns c = search rules

@@ -1,9 +1,7 @@
--- `put_list` copies the listed states and ends the list: what is ended is the front that was copied.
-use mathlib.Core.Path.{◌∙◌}
-use Rattle.solving.proofs.Filling.{copied_ends}
+-- `put_list` copies the listed states and ends the list: the library's copy and fill make the list that is asked.
+use Rattle.std.proofs.Common.{rules}
+use Rattle.solving.proofs.Filling.{list_put}
 use Rattle.solving.proofs.lent.put_list.Goals as goal
 
 pub returns : goal.returns
-returns c =
-    c.pad.ensures
-    ∙ copied_ends _ _ _ _ _ c.requires.0 c.requires.2 c.requires.3 c.copy_listed.ensures
+returns c = search (rules, list_put)

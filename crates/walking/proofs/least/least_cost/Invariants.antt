@@ -1,13 +1,9 @@
 -- `least_cost` answers the model's least over the states passed, one step of it a turn.
 use mathlib.Core.Path.{◌≡◌}
-use Prim.Native.Nat.{◌≤◌, ◌-◌}
 use Rattle.model.specs.Sections.{problem_of}
 use Rattle.model.specs.Value.{by_state}
 use Rattle.model.specs.Walk.{least_to}
 use Rattle.walking.proofs.least.least_cost.Given as goal
 
 abbrev pub invariant-loop-s : goal.invariant-loop-s
-invariant-loop-s l = (l.s ≤ l.n) × (l.least ≡ least_to (problem_of l.file) (by_state l.picks) l.marks l.s)
-
-abbrev pub decreases-loop-s : goal.decreases-loop-s
-decreases-loop-s l = l.n - l.s
+invariant-loop-s l = l.least ≡ least_to (problem_of l.problem.file.now) (by_state l.picks) l.marks l.s

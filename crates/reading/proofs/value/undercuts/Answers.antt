@@ -1,8 +1,0 @@
--- `undercuts` compares the row value where the cost alone does not tell: a row's value is at least its cost.
-use mathlib.Core.Path.{sym}
-use Rattle.model.specs.Value.{by_state}
-use Rattle.reading.proofs.RowValues.{cost_passes}
-use Rattle.reading.proofs.value.undercuts.Goals as goal
-
-pub returns-then-value-cost : goal.returns-then-value-cost
-returns-then-value-cost c = sym (cost_passes c.requires (by_state c.args.values.now) _ c.if-value-cost.true)
