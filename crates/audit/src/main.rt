@@ -12,14 +12,17 @@ use std::rt::{Env, Files};
 // A file that is longer than the longest is refused as its front is, and a longer table gets the answer of its entries of states
 // (`Audits`).
 fn audit_named<R: Env + Files + Print, W: Write>(program: &mut Program<R, W>) -> Result<(), Told> {
-    let mut room = [0u8; FILE_ROOM];
-    let file = program.read_named(1, &mut room)?;
-    let mut room = [0u8; VALUES_ROOM];
-    let values = program.read_named(2, &mut room)?;
-    let mut room = [0u8; PICKS_ROOM];
-    let picks = program.read_named(3, &mut room)?;
+    let mut file = [0u8; FILE_ROOM];
+    let got = program.read_named(1, &mut file);
+    let i = got.map_err(|_| Told)?.len();
+    let mut values = [0u8; VALUES_ROOM];
+    let got = program.read_named(2, &mut values);
+    let j = got.map_err(|_| Told)?.len();
+    let mut picks = [0u8; PICKS_ROOM];
+    let got = program.read_named(3, &mut picks);
+    let k = got.map_err(|_| Told)?.len();
     let mut line = [0u8; LINE_MOST];
-    let n = programs::audit_line(file, values, picks, &mut line);
+    let n = programs::audit_line(&file, i, &values, j, &picks, k, &mut line);
     let printed = program.rt.write_all(&line[..n]);
     program.told(b"standard output", printed)
 }

@@ -56,12 +56,13 @@ pub extern "C" fn cuulipso_check(file: &[u8], answer: &mut [u64]) -> u8
     }
 }
 
-// Copies the front of `from` to the front of `to`, as far as it fits.
+// Copies the front of `from` to the front of `to`, as far as it fits. With `copy_from_slice` the archive would need `memmove` from outside.
 fn copy_front(from: &[u8], to: &mut [u8])
     ensures { to.new ≡ copied from.now to.old }
 {
-    let n = from.len().min(to.len());
-    to[..n].copy_from_slice(&from[..n]);
+    for i in 0..from.len().min(to.len()) {
+        to[i] = from[i];
+    }
 }
 
 // The length of the stretch of the state's rows; its bytes stand at the front of `out` as far as they fit, the rest of `out` stays.
@@ -97,7 +98,16 @@ fn hand_over(
     if answer.len() < 3 {
         return 4;
     }
-    match solving::solve::solve(kind, file, budget, tables) {
+    let said = solving::solve::solve(
+        kind,
+        file,
+        budget,
+        tables.values,
+        tables.picks,
+        tables.remembered,
+        tables.walk,
+    );
+    match said {
         Ok(Ended::Solved(counts)) => {
             put3(answer, counted(counts));
             1

@@ -35,6 +35,7 @@ use Rattle.writing.specs.declared.page.Page.{Page}
 use Rattle.writing.specs.Pages.{Puts, Room, puts_more, puts_same, puts_rest, puts_whole, room_first, number_room}
 use Rattle.writing.specs.Putting.{is_copied}
 use Rattle.exchanging.specs.FormAsks.{form_of, row_codes, code_as}
+use Rattle.exchanging.specs.declared.form.Form.{Form}
 use Rattle.exchanging.proofs.Inserting.{codes_bytes}
 use Rattle.exchanging.proofs.RowsGathered.{codes_size}
 
@@ -154,6 +155,16 @@ module _ (f : List ℕ) {table : List ℕ} (passed : file_questions f ≡ passes
   codes_bytes_all =
       codes_put table (length table) (omega arith) ∙ ap bytes32 (take-length table ∙ coded)
       ∙ rows_bytes f passed (problem_of f).rows (omega arith)
+
+-- how long a form is, by its counts and codes
+pub form_adds_up
+    : (x : Form)
+    → length (set_form x.problem.file.now)
+    ≡ 2 + 4 * settings_on (eqb (problem_of x.problem.file.now).total thousandths) + 2 + 6 * (problem_of x.problem.file.now).states
+    + 2 + 4 * length x.counts.now + 2 + 4 * length x.codes.now
+form_adds_up x =
+    let f = x.problem.file.now in
+    omega (arith, number_is f refl, x.counted.long, all_coded f x.passed x.coded, form_size f)
 
 -- the form's four sections, in order
 module _ (f : List ℕ) where

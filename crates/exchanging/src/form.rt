@@ -51,6 +51,7 @@ pub struct Form<'a> {
 
 impl<'a> Form<'a> {
     // How long it is.
+    #[tactic(auto, using(crate::proofs::FormSections::form_adds_up))]
     pub fn len(self) -> usize
         ensures { result ≡ length (set_form self.entry.problem.file.now) }
     {

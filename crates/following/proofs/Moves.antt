@@ -22,6 +22,12 @@ use Rattle.reading.specs.declared.picks.Pick.TheVariants.{Row}
 use Rattle.auditing.specs.Plans.{problem_in, picks_in}
 use Rattle.auditing.specs.declared.plan.Plan.{Plan}
 
+-- where the questions of a report pass, the outcome may occur
+pub may_occur_lem
+    : (p : Problem) (pick : ℕ → ℕ) (w : Follower) (o : ℕ) → report_questions p pick w o ≡ passes
+    → may_occur p pick w.state o ≡ true
+may_occur_lem p pick w o asked = asked_occurs p pick w o asked
+
 module _ (plan : Plan) where
   abbrev p : Problem
   p = problem_in plan
@@ -63,7 +69,7 @@ module _ (plan : Plan) where
 
   module _ (w : Follower) (o : ℕ) (asked : report_questions p pick w o ≡ passes) where
     occurring : may_occur p pick w.state o ≡ true
-    occurring = asked_occurs p pick w o asked
+    occurring = may_occur_lem p pick w o asked
 
     pub moves_room : w.moves < max_moves
     moves_room = asked_moves p pick w o asked

@@ -7,6 +7,7 @@ use mathlib.Core.List.{List}
 use lib.Dec.{eqb}
 use lib.ListN.{length, take, length-take}
 use borrow.Author.Tests.{eq-eqb, ne_eqb, eqb-true, eqb-false}
+use Rattle.model.specs.Buffers.{ReadOf}
 use Rattle.model.specs.Limits.{max_states}
 use Rattle.plan.specs.Names.{Shows}
 use Rattle.std.specs.Prelude.{Some, Ok}
@@ -19,14 +20,13 @@ same_answer a b m there back = go (eqb a m) refl
     go true e = e ∙ sym (eq-eqb b m (there (eqb-true a m e)))
     go false e = e ∙ sym (ne_eqb b m (λ k. eqb-false a m e (back k)))
 
--- got, as much of f as there is room for
-module _ (f got : List ℕ) (room : ℕ) (read : take room f ≡ got) where
-  as_long : (m : ℕ) → m < room → eqb (length got) m ≡ eqb (length f) m
+module _ (f buffer : List ℕ) (n : ℕ) (read : ReadOf f buffer n) where
+  as_long : (m : ℕ) → m < length buffer → eqb (length (take n buffer)) m ≡ eqb (length f) m
   as_long m l =
-      let cut : min room (length f) ≡ length got = sym (length-take room f) ∙ ap length read in
-      same_answer (length got) (length f) m (λ e. omega (arith, cut)) (λ e. omega (arith, cut))
+      let cut : min (length buffer) (length f) ≡ length (take n buffer) = sym (length-take (length buffer) f) ∙ ap length read in
+      same_answer (length (take n buffer)) (length f) m (λ e. omega (arith, cut)) (λ e. omega (arith, cut))
 
-  pub shows : 4 * max_states < room → Shows f (Ok (Some (length got)))
+  pub shows : 4 * max_states < length buffer → Shows f (Ok (Some (length (take n buffer))))
   shows wide =
       record {
         takes_as_long = λ m l. as_long m (omega arith);

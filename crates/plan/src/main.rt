@@ -4,18 +4,21 @@
 #![tactic(auto)]
 
 ghost use Rattle.std.specs.Prelude.{◌≡◌, ℕ, ◌≤◌, List, ◌++◌, length, take};
+ghost use Rattle.model.specs.Buffers.{ReadOf};
 ghost use Rattle.model.specs.Lines.{codes};
 ghost use Rattle.plan.specs.declared.TheConstants.{PART};
 ghost use Rattle.plan.specs.Names.{name_most, Named, clashing, takes, clears, Shows};
 
 use model::{Kind, MAX_STATES, NO_PICK, PLAN_HOLDS};
 use printing::messages::complain;
-use printing::table_files::{Entry, PICKS_ROOM, VALUES_ROOM, put_table};
+use printing::table_files::{
+    PICK_BYTES, PICKS_ROOM, VALUE_BYTES, VALUES_ROOM, put_picks, put_values,
+};
 use programs::checked::states_in;
 use programs::files::{
     NAME, Program, Told, are_names, arg_count, argument, open_named, path_of, read_whole,
 };
-use programs::{PAGE, Planned};
+use programs::{PAGE, Planned, front};
 use std::fs::{OpenFile, OpenOptions};
 use std::io::{ErrorKind, Read, Seek, Write};
 use std::marker::Model;
@@ -50,18 +53,21 @@ fn rename<F: Files>(rt: &F, from: &[u8], to: &[u8]) -> io::Result<()> {
 // may not be written, which says why it cannot be looked into.
 type There = io::Result<Option<usize>>;
 
-// A file of which as much was read as there is room for: that shows whether it is just as long as a table, since any table has fewer bytes.
-fn seen(got: &[u8]) -> There
-    ensures { (f : List ℕ) → take LOOK f ≡ got.now → Shows f result }
+// A file of which `read` bytes are in `bytes`, as many as there is room for: that shows whether it is just as long as a table, since any
+// table has fewer.
+fn seen(bytes: &[u8; LOOK], read: usize) -> There
+    ensures { (f : List ℕ) → ReadOf f bytes.now read → Shows f result }
 {
-    Ok(Some(got.len()))
+    Ok(Some(front(bytes, read).len()))
 }
 
 // Looks into a file that was opened, as far as tables go: a longer file has `LOOK` bytes. A pipe, which has no position, is no such file.
 fn look_into<F: Read + Seek>(file: &mut F) -> There {
     file.stream_position()?;
     let mut bytes = [0u8; LOOK];
-    seen(read_whole(file, &mut bytes)?)
+    let got = read_whole(file, &mut bytes).map_err(|broken| broken.error);
+    let read = got?.len();
+    seen(&bytes, read)
 }
 
 // Looks at a name. A name of no bytes, which no file can have, is among those where anything else stands.
@@ -314,8 +320,8 @@ impl Names<'_> {
         let value_part = part_of(self.values);
         let pick_part = part_of(self.picks);
         let targets = Targets {
-            values: Target::new(self.values, &value_part, u32::BYTES * states),
-            picks: Target::new(self.picks, &pick_part, u16::BYTES * states),
+            values: Target::new(self.values, &value_part, VALUE_BYTES * states),
+            picks: Target::new(self.picks, &pick_part, PICK_BYTES * states),
         };
         targets.are_ready(program)
     }
@@ -328,9 +334,9 @@ impl Names<'_> {
         picks: &[u16],
     ) -> Result<(), Told> {
         let mut value_bytes = [0u8; VALUES_ROOM];
-        let n = put_table(values, &mut value_bytes);
+        let n = put_values(values, &mut value_bytes);
         let mut pick_bytes = [0u8; PICKS_ROOM];
-        let m = put_table(picks, &mut pick_bytes);
+        let m = put_picks(picks, &mut pick_bytes);
         let value_part = part_of(self.values);
         let pick_part = part_of(self.picks);
         let targets = Targets {
@@ -349,7 +355,7 @@ fn plan_input<R: Files + Input + Print, W: Write>(
     names: Option<Names>,
 ) -> Result<(), Told> {
     let mut page = [0u8; PAGE];
-    let got = read_whole(&mut program.rt.reader(), &mut page);
+    let got = read_whole(&mut program.rt.reader(), &mut page).map_err(|broken| broken.error);
     let input = program.told(b"standard input", got)?;
     let read = input.len();
     if let Some(names) = names

@@ -1,19 +1,20 @@
 -- How long the lines can be: a number below 10 ^ k has at most k digits, and the lines add up their parts.
 -- The longest text of a plan, and all sheets, fit in the room that is told.
-use mathlib.Core.Path.{◌≡◌, refl, ap}
-use Prim.Native.Nat.{ℕ, zero, suc, ◌+◌, ◌*◌, ◌^◌, ◌≤◌, ◌<◌}
+use mathlib.Core.Path.{◌≡◌, refl}
+use Prim.Native.Nat.{ℕ, zero, suc, ◌+◌, ◌*◌, ◌/◌, ◌%◌, ◌^◌, ◌≤◌, ◌<◌}
 use native.Mathlib.Omega.{arith}
+use native.Mathlib.Nat.{pow-suc}
 use native.Mathlib.Numerals.{add-one}
 use mathlib.Core.Bool.{Bool, true, false}
 use mathlib.Core.List.{List, [], ◌∷◌, ◌++◌}
-use lib.Dec.{eqb}
+use lib.Dec.{ltb, eqb}
 use lib.IntN.{ℤ, pos, negsuc}
 use lib.ListN.{length, get_or, length-append}
 use lib.Signed.{mag}
-use Rattle.std.proofs.lemmas.Fmt.{length-decimal-le}
+use borrow.Author.Tests.{ltb-false}
 use Rattle.model.specs.Limits.{give_up, max_states, max_seconds, max_total}
 use Rattle.model.specs.Limits.{min_rate, max_rate, rate_count, file_stick, stick_lengths}
-use Rattle.model.specs.Lines.{codes, decimal, blank_number, blank_signed, pick_on}
+use Rattle.model.specs.Lines.{codes, decimal_on, decimal_from, decimal, blank_number, blank_signed, pick_on, line_on}
 use Rattle.model.specs.Audit.{Audited, accepted}
 use Rattle.model.specs.Lines.{state_line, audit_line}
 use Rattle.model.specs.Sections.{length_seconds}
@@ -21,15 +22,30 @@ use Rattle.model.specs.Sheets.{rate_line, rate_lines, sheet_text, sheets_to, all
 use Rattle.model.specs.Buffers.{line_most, state_most}
 use Rattle.guarantee.specs.Rates.{seconds_high}
 use Rattle.printing.specs.Texts.{numbered}
-use Rattle.printing.proofs.Digits.{decimal_digits}
 use Rattle.printing.proofs.Sheeting.{no_rates, rates_next, no_sheets, sheets_next}
 
--- a number of so many digits, and one of 64 bits
-pub decimal_most : (k n : ℕ) → n < 10 ^ suc k → n < 2 ^ 64 → length (decimal n) ≤ suc k
-decimal_most k n h fits = omega (arith, ap length (decimal_digits n fits), length-decimal-le (suc k) n (omega arith) h fits)
+-- a number of so many digits, by induction on the fuel, and one of 64 bits
+digits_most : (fuel k n : ℕ) → n < 10 ^ suc k → length (decimal_from fuel n) ≤ suc k
+unfolding decimal_from
+digits_most zero k n h = omega arith
+digits_most (suc fuel) k n h = go (ltb n 10) refl k h (λ j. digits_most fuel j (n / 10))
+  where
+    go
+        : (b : Bool) → ltb n 10 ≡ b → (k : ℕ) → n < 10 ^ suc k
+        → ((j : ℕ) → n / 10 < 10 ^ suc j → length (decimal_from fuel (n / 10)) ≤ suc j)
+        → length (decimal_on b n (decimal_from fuel)) ≤ suc k
+    go true e k h most = omega arith
+    go false e zero h most = absurd (omega (arith, ltb-false n 10 e))
+    go false e (suc k) h most =
+        let small : n < 10 ^ suc k * 10 = rw (pow-suc 10 (suc k)) at h in
+        omega (arith, length-append (decimal_from fuel (n / 10)) ((48 + n % 10) ∷ []), most k (omega arith))
+
+pub decimal_most : (k n : ℕ) → n < 10 ^ suc k → length (decimal n) ≤ suc k
+unfolding decimal
+decimal_most k n h = digits_most (suc n) k n h
 
 wide_most : (n : ℕ) → n < 2 ^ 64 → length (decimal n) ≤ 20
-wide_most n h = decimal_most 19 n (omega arith) h
+wide_most n h = decimal_most 19 n (omega arith)
 
 pub three_most : (a b c : List ℕ) (n m k : ℕ) → length a ≤ n → length b ≤ m → length c ≤ k → length (a ++ b ++ c) ≤ n + m + k
 three_most a b c n m k p q r = omega (arith, length-append (a ++ b) c, length-append a b)
@@ -73,16 +89,20 @@ audit_refused_most q i x p r w =
 -- the lines of the states
 pick_most : (b : Bool) (r : ℕ) → r < 2 ^ 16 → length (pick_on b r) ≤ 6
 pick_most true r h = omega arith
-pick_most false r h = omega (arith, decimal_most 4 r (omega arith) (omega arith))
+pick_most false r h = omega (arith, decimal_most 4 r (omega arith))
+
+pub line_most_lem : (b : Bool) (line : List ℕ) (n : ℕ) → length line ≤ n → length (line_on b line) ≤ n
+line_most_lem true line n h = h
+line_most_lem false line n h = omega arith
 
 pub state_most_lem : (s v r m : ℕ) → s < max_states → v < 2 ^ 32 → r < 2 ^ 16 → m < max_total → length (state_line s v r m) ≤ state_most
 unfolding state_line
 state_most_lem s v r m p q w low =
     let pick = pick_on (eqb r give_up) r in
     three_most (decimal s ++ blank_number v ++ pick) (blank_number m) (codes "\n") 21 5 1
-    (three_most (decimal s) (blank_number v) pick 4 11 6 (decimal_most 3 s (omega arith) (omega arith))
-    (omega (arith, decimal_most 9 v (omega arith) (omega arith))) (pick_most (eqb r give_up) r w))
-    (omega (arith, decimal_most 3 m (omega arith) (omega arith))) (omega arith)
+    (three_most (decimal s) (blank_number v) pick 4 11 6 (decimal_most 3 s (omega arith))
+    (omega (arith, decimal_most 9 v (omega arith))) (pick_most (eqb r give_up) r w))
+    (omega (arith, decimal_most 3 m (omega arith))) (omega arith)
 
 -- a text of n parts is no longer than they are
 parts_most
@@ -101,8 +121,8 @@ rate_most = 11
 rate_most_lem : (rate seconds : ℕ) → rate ≤ max_rate → seconds ≤ max_seconds → length (rate_line rate seconds) ≤ rate_most
 unfolding rate_line
 rate_most_lem rate seconds p q =
-    three_most (decimal rate) (blank_number seconds) (codes "\n") 4 6 1 (decimal_most 3 rate (omega arith) (omega arith))
-    (omega (arith, decimal_most 4 seconds (omega arith) (omega arith))) (omega arith)
+    three_most (decimal rate) (blank_number seconds) (codes "\n") 4 6 1 (decimal_most 3 rate (omega arith))
+    (omega (arith, decimal_most 4 seconds (omega arith))) (omega arith)
 
 sheet_most : (mm : ℕ) → mm ≤ file_stick → length (sheet_text mm) ≤ rate_most * rate_count
 sheet_most mm short =

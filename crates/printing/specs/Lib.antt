@@ -2,3 +2,4 @@
 pub mod Texts
 pub mod Told
 pub mod Entries
+pub mod Refusals

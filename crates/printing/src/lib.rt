@@ -5,5 +5,6 @@
 mod decimals;
 pub mod lines;
 pub mod messages;
+pub mod refusals;
 pub mod sheets;
 pub mod table_files;

@@ -1,17 +1,18 @@
 // The lines of `plan` and `audit`.
 ghost use Rattle.std.specs.Prelude.{◌++◌, ◌+◌, ◌*◌, ◌≤◌, ◌<◌, eqb, length, get_or};
-ghost use Rattle.model.specs.Answers.{answer_of, audited_of, number_of};
 ghost use Rattle.model.specs.Audit.{refused};
 ghost use Rattle.model.specs.Limits.{give_up};
 ghost use Rattle.model.specs.Lines.{codes, pick_on};
 ghost use Rattle.model.specs.Lines.{answer_line, audit_line, state_line, state_lines, run_text};
 ghost use Rattle.model.specs.Buffers.{Holds, line_most, state_most};
 ghost use Rattle.model.specs.Value.{by_state};
+ghost use Rattle.printing.specs.Refusals.{answer_by, audited_by};
 ghost use Rattle.printing.specs.Texts.{Brief, Marked, WalkWithin, numbered};
 ghost use Rattle.writing.specs.Pages.{Puts};
 
 use crate::decimals::{put_next, put_number, put_signed};
-use model::{AuditRefusal, Ended, MAX_STATES, Refusal};
+use crate::refusals::Refused;
+use model::{Ended, MAX_STATES};
 use reading::picks::Pick;
 use writing::page::Page;
 
@@ -37,9 +38,9 @@ fn put_line(page: &mut Page<'_>, word: &[u8], numbers: &[u64])
 }
 
 // Puts the first line of `plan`: how the run ended, or the refusal.
-fn put_answer(page: &mut Page<'_>, answer: Result<Ended, Refusal>)
-    ensures puts { Puts page.old page.new (answer_line (answer_of answer)) }
-    ensures brief { length (answer_line (answer_of answer)) ≤ line_most }
+fn put_answer<R: Refused>(page: &mut Page<'_>, answer: Result<Ended, R>)
+    ensures puts { Puts page.old page.new (answer_line (answer_by R.question_of R.place_of answer)) }
+    ensures brief { length (answer_line (answer_by R.question_of R.place_of answer)) ≤ line_most }
 {
     match answer {
         Ok(Ended::Solved(counts)) => put_line(
@@ -50,16 +51,18 @@ fn put_answer(page: &mut Page<'_>, answer: Result<Ended, Refusal>)
         Ok(Ended::Spent(counts)) => {
             put_line(page, b"spent", &[counts.rounds, counts.evaluations])
         }
-        Err(Refusal { question, place }) => {
-            put_line(page, b"refused", &[question.number().into(), place.into()])
-        }
+        Err(refusal) => put_line(
+            page,
+            b"refused",
+            &[refusal.question().into(), refusal.place().into()],
+        ),
     }
 }
 
 // Puts the text of an answer with no states at the front of `out`: its line.
-pub fn answer_text(answer: Result<Ended, Refusal>, out: &mut [u8]) -> usize
-    ensures holds { Holds out.old out.new result (answer_line (answer_of answer)) }
-    ensures brief { length (answer_line (answer_of answer)) ≤ line_most }
+pub fn answer_text<R: Refused>(answer: Result<Ended, R>, out: &mut [u8]) -> usize
+    ensures holds { Holds out.old out.new result (answer_line (answer_by R.question_of R.place_of answer)) }
+    ensures brief { length (answer_line (answer_by R.question_of R.place_of answer)) ≤ line_most }
 {
     let mut page = Page::new(out);
     put_answer(&mut page, answer);
@@ -143,16 +146,16 @@ fn put_states(page: &mut Page<'_>, run: Run<'_>)
 }
 
 // Puts the text of a plan at the front of `out`: the answer's line, then a line for each state of the walk list.
-pub fn plan_text(answer: Result<Ended, Refusal>, run: Run<'_>, out: &mut [u8]) -> usize
+pub fn plan_text<R: Refused>(answer: Result<Ended, R>, run: Run<'_>, out: &mut [u8]) -> usize
     ensures holds { Holds
         out.old out.new result
         (run_text
-        (answer_of answer) run.entry.values.now run.entry.picks.now
+        (answer_by R.question_of R.place_of answer) run.entry.values.now run.entry.picks.now
         (by_state run.entry.remainders.now) run.entry.walk.now
         (length run.entry.walk.now)) }
     ensures brief { Brief
         (run_text
-        (answer_of answer) run.entry.values.now run.entry.picks.now
+        (answer_by R.question_of R.place_of answer) run.entry.values.now run.entry.picks.now
         (by_state run.entry.remainders.now) run.entry.walk.now
         (length run.entry.walk.now))
         (length run.entry.walk.now) }
@@ -164,26 +167,26 @@ pub fn plan_text(answer: Result<Ended, Refusal>, run: Run<'_>, out: &mut [u8]) -
 }
 
 // Puts the line of an audit's refusal.
-fn put_refused(page: &mut Page<'_>, refusal: AuditRefusal)
+fn put_refused<R: Refused>(page: &mut Page<'_>, refusal: R)
     ensures puts { Puts
         page.old page.new
-        (audit_line (refused (number_of refusal.question) refusal.place refusal.excess)) }
-    ensures brief { length (audit_line (refused (number_of refusal.question) refusal.place refusal.excess))
+        (audit_line (refused (R.question_of refusal) (R.place_of refusal) (R.excess_of refusal))) }
+    ensures brief { length (audit_line (refused (R.question_of refusal) (R.place_of refusal) (R.excess_of refusal)))
         ≤ line_most }
 {
     put_numbers(
         page,
         b"refused",
-        &[refusal.question.number().into(), refusal.place.into()],
+        &[refusal.question().into(), refusal.place().into()],
     );
-    put_signed(page, refusal.excess);
+    put_signed(page, refusal.excess());
     page.put(b"\n");
 }
 
 // Puts the line of an audit.
-fn put_audit(page: &mut Page<'_>, answer: Result<u32, AuditRefusal>)
-    ensures puts { Puts page.old page.new (audit_line (audited_of answer)) }
-    ensures brief { length (audit_line (audited_of answer)) ≤ line_most }
+fn put_audit<R: Refused>(page: &mut Page<'_>, answer: Result<u32, R>)
+    ensures puts { Puts page.old page.new (audit_line (audited_by R.question_of R.place_of R.excess_of answer)) }
+    ensures brief { length (audit_line (audited_by R.question_of R.place_of R.excess_of answer)) ≤ line_most }
 {
     match answer {
         Ok(least) => put_line(page, b"accepted", &[least.into()]),
@@ -192,9 +195,9 @@ fn put_audit(page: &mut Page<'_>, answer: Result<u32, AuditRefusal>)
 }
 
 // Puts the line of an audit at the front of `out`.
-pub fn audit_text(answer: Result<u32, AuditRefusal>, out: &mut [u8]) -> usize
-    ensures holds { Holds out.old out.new result (audit_line (audited_of answer)) }
-    ensures brief { length (audit_line (audited_of answer)) ≤ line_most }
+pub fn audit_text<R: Refused>(answer: Result<u32, R>, out: &mut [u8]) -> usize
+    ensures holds { Holds out.old out.new result (audit_line (audited_by R.question_of R.place_of R.excess_of answer)) }
+    ensures brief { length (audit_line (audited_by R.question_of R.place_of R.excess_of answer)) ≤ line_most }
 {
     let mut page = Page::new(out);
     put_audit(&mut page, answer);

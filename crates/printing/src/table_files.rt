@@ -1,7 +1,8 @@
 // Table files: values as 32-bit and picks as 16-bit numbers, least byte first, one entry a state.
 ghost use Rattle.std.specs.Prelude.{◌≡◌, ℕ, List, ◌++◌, ◌+◌, ◌*◌, ◌≤◌, length, take};
 ghost use Rattle.model.specs.Bytes.{number_bytes, u16_at, u32_at};
-ghost use Rattle.model.specs.TableFiles.{entries16, entries32, table_bytes};
+ghost use Rattle.model.specs.Limits.{max_states};
+ghost use Rattle.model.specs.TableFiles.{bytes16, bytes32, entries16, entries32, table_bytes};
 ghost use Rattle.model.specs.Buffers.{Holds};
 ghost use Rattle.writing.specs.Pages.{Puts};
 ghost use Rattle.printing.specs.Entries.{EntryLaws, values_laws, picks_laws, values_room, picks_room, own, all};
@@ -102,6 +103,11 @@ impl Entry for u16 {
     }
 }
 
+// The bytes of a value, and of a pick.
+pub const VALUE_BYTES: usize = <u32 as Entry>::BYTES;
+
+pub const PICK_BYTES: usize = <u16 as Entry>::BYTES;
+
 // Room for the bytes of a table of values, and of one of picks.
 pub const VALUES_ROOM: usize = <u32 as Entry>::ROOM;
 
@@ -125,6 +131,23 @@ pub fn put_table<E: Entry>(table: &[E], out: &mut [u8]) -> usize
     let mut page = Page::new(out);
     put_each(&mut page, table);
     page.len()
+}
+
+// Puts the bytes of a values table at the front of `out`, and answers how many there are. The type of `out` has the room: nothing is cut of a
+// table of as many states as a file can have.
+pub fn put_values(values: &[u32], out: &mut [u8; VALUES_ROOM]) -> usize
+    ensures holds { Holds out.old out.new result (bytes32 values.now) }
+    ensures whole { length values.now ≤ max_states → take result out.new ≡ bytes32 values.now }
+{
+    put_table(values, out)
+}
+
+// The same of a picks table.
+pub fn put_picks(picks: &[u16], out: &mut [u8; PICKS_ROOM]) -> usize
+    ensures holds { Holds out.old out.new result (bytes16 picks.now) }
+    ensures whole { length picks.now ≤ max_states → take result out.new ≡ bytes16 picks.now }
+{
+    put_table(picks, out)
 }
 
 // Reads the entries of a table file into the front of `table`, as far as they fit, and answers how many there are.

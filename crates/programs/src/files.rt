@@ -21,15 +21,32 @@ const TOO_LONG: i32 = 36;
 
 const NO_TEXT: i32 = 84;
 
+// A read that failed: how many bytes came before, and why.
+#[derive(Clone, Copy)]
+pub struct Broken {
+    pub length: usize,
+    pub error: Error,
+}
+
+// Where a call before the first read failed nothing came.
+impl From<Error> for Broken {
+    ghost from_gives = { λ error broken. broken ≡ record { length = 0; error = error } };
+
+    fn from(error: Error) -> Broken {
+        Broken { length: 0, error }
+    }
+}
+
 // Reads until `buf` is full or the input ends, and answers what was read. The library's `read_exact` fails where the input ends before.
-pub fn read_whole<'a, R: Read>(input: &mut R, buf: &'a mut [u8]) -> io::Result<&'a [u8]>
-    ensures { IfOk result (λ part. length part.now ≤ length buf.old) }
+pub fn read_whole<'a, R: Read>(input: &mut R, buf: &'a mut [u8]) -> Result<&'a [u8], Broken>
+    ensures { MatchResult result (λ part. length part.now ≤ length buf.old) (λ broken. broken.length ≤ length buf.old) }
 {
     let mut n = 0;
     while n < buf.len() {
-        match input.read(&mut buf[n..])? {
-            0 => break,
-            more => n += more,
+        match input.read(&mut buf[n..]) {
+            Ok(0) => break,
+            Ok(more) => n += more,
+            Err(error) => return Err(Broken { length: n, error }),
         }
     }
     Ok(&buf[..n])
@@ -73,8 +90,8 @@ pub fn open_named<F: Files>(rt: &F, how: &OpenOptions, name: &[u8]) -> io::Resul
 }
 
 // Reads the file of a name, as far as `buf` has room.
-fn read_file<'a, F: Files>(rt: &F, name: &[u8], buf: &'a mut [u8]) -> io::Result<&'a [u8]>
-    ensures { IfOk result (λ part. length part.now ≤ length buf.old) }
+fn read_file<'a, F: Files>(rt: &F, name: &[u8], buf: &'a mut [u8]) -> Result<&'a [u8], Broken>
+    ensures { MatchResult result (λ part. length part.now ≤ length buf.old) (λ broken. broken.length ≤ length buf.old) }
 {
     let mut file = open_named(rt, OpenOptions::new().read(true), name)?;
     read_whole(&mut file, buf)
@@ -105,18 +122,24 @@ impl<R, W: Write> Program<'_, R, W> {
     }
 
     // Reads the file that argument `i` names, as far as `buf` has room. Where that fails it is said.
-    pub fn read_named<'b>(&mut self, i: usize, buf: &'b mut [u8]) -> Result<&'b [u8], Told>
+    pub fn read_named<'b>(&mut self, i: usize, buf: &'b mut [u8]) -> Result<&'b [u8], Broken>
     where
         R: Env + Files,
-        ensures { IfOk result (λ part. length part.now ≤ length buf.old) }
+        ensures { MatchResult result (λ part. length part.now ≤ length buf.old) (λ broken. broken.length ≤ length buf.old) }
     {
         let mut path = [0u8; NAME];
         let name = match argument(self.rt, i, &mut path) {
             Ok(name) => name,
-            Err(error) => return self.told(&path, Err(error)),
+            Err(error) => {
+                fail(&mut self.messages, self.name, &path, &error);
+                return Err(error.into());
+            }
         };
         let got = read_file(self.rt, name, buf);
-        self.told(name, got)
+        if let Err(broken) = &got {
+            fail(&mut self.messages, self.name, name, &broken.error);
+        }
+        got
     }
 }
 

@@ -140,16 +140,27 @@ pub fn plan(
     Planned { length, states }
 }
 
-// The line of the audit of an input with the tables of two others. What is lent of each is the input, or its front where it is longer than
-// the room for it.
-pub fn audit_line(file: &[u8], values: &[u8], picks: &[u8], out: &mut [u8; LINE_MOST]) -> usize
+// The line of the audit of an input with the tables of two others, of which i, j and k bytes are in `file`, `values` and `picks`. Where an
+// input is longer than the room for it, its front is there.
+pub fn audit_line(
+    file: &[u8; FILE_ROOM],
+    i: usize,
+    values: &[u8; VALUES_ROOM],
+    j: usize,
+    picks: &[u8; PICKS_ROOM],
+    k: usize,
+    out: &mut [u8; LINE_MOST],
+) -> usize
     ensures within { result ≤ length out.new }
-    ensures audits { (f v p : List ℕ) → take FILE_ROOM f ≡ file.now → take VALUES_ROOM v ≡ values.now
-        → take PICKS_ROOM p ≡ picks.now → Audits f v p out.old out.new result }
+    ensures audits { (f v p : List ℕ) → ReadOf f file.now i → ReadOf v values.now j
+        → ReadOf p picks.now k → Audits f v p out.old out.new result }
 {
+    let problem = front(file, i);
+    let value_bytes = front(values, j);
+    let pick_bytes = front(picks, k);
     let mut v = [0u32; MAX_STATES];
-    let n = table_of(values, &mut v);
+    let n = table_of(value_bytes, &mut v);
     let mut p = [0u16; MAX_STATES];
-    let m = table_of(picks, &mut p);
-    audit_text(auditing::audit(file, &v[..n], &p[..m]), out)
+    let m = table_of(pick_bytes, &mut p);
+    audit_text(auditing::audit(problem, &v[..n], &p[..m]), out)
 }

@@ -16,7 +16,7 @@ use model::{MAX_RATE, MILLIMETRE_SECONDS, MIN_RATE};
 pub const RATES: usize = (MAX_RATE - MIN_RATE + 1) as usize;
 
 // The sheet, an entry for each rate.
-#[derive(Drop)]
+#[derive(Clone, Copy)]
 pub struct Sheet {
     pub seconds: [u16; RATES],
     pub ghost rate_sheet: { RateSheet seconds },
@@ -28,7 +28,7 @@ impl Sheet {
         requires { (min_rate ≤ rate) × (rate ≤ max_rate) }
         ensures { result ≡ rate_seconds rate }
     {
-        self.seconds[(rate - MIN_RATE) as usize]
+        rate_seconds(&self.seconds, rate)
     }
 }
 
@@ -39,6 +39,14 @@ pub fn rate_sheet() -> Sheet
     Sheet {
         seconds: RATE_SECONDS,
     }
+}
+
+// "600,000 / r rounded up" for a melt rate, off the sheet's entries.
+pub fn rate_seconds(sheet: &[u16; RATES], rate: u32) -> u16
+    requires { (RateSheet sheet.now) × (min_rate ≤ rate) × (rate ≤ max_rate) }
+    ensures { result ≡ rate_seconds rate }
+{
+    sheet[(rate - MIN_RATE) as usize]
 }
 
 // "600 × length / rate rounded up", for a stick of so many millimetres at a melt rate.

@@ -1,5 +1,4 @@
 -- Laws that the proofs of this crate share.
-pub mod Pairs
 pub mod Places
 pub mod Layouts
 pub mod FewRows

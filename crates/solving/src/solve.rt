@@ -3,7 +3,7 @@
 ghost use Rattle.std.specs.Prelude.{◌≡◌};
 ghost use Rattle.model.specs.Answers.{solve_carries};
 ghost use Rattle.model.specs.Promises.{Leaves, EndsSolved, PassesAudit, FinishesExact};
-ghost use Rattle.model.specs.Solution.{solution};
+ghost use Rattle.model.specs.Solution.{tables, solution};
 ghost use Rattle.model.specs.declared.Kind.TheVariants.{Finishing};
 ghost use Rattle.reading.specs.Room.{IndexRoom};
 ghost use Rattle.solving.specs.Lent.{tables_in, tables_left, Same};
@@ -112,17 +112,34 @@ pub fn solve(
     kind: Kind,
     file: &[u8],
     budget: u64,
-    tables: &mut Tables<'_>,
+    values: &mut [u32],
+    picks: &mut [u16],
+    remembered: &mut [u32],
+    walk: &mut [u16],
 ) -> Result<Ended, Refusal>
-    ensures same { Same tables.old tables.new }
     ensures leaves { Leaves
-        (solve_carries result) (tables_in tables.new) (solution kind file.now budget (tables_in tables.old)) }
-    ensures ending { EndsSolved kind file.now budget (tables_in tables.old) (solve_carries result) }
-    ensures acceptance { PassesAudit file.now (tables_in tables.new) (solve_carries result) }
-    ensures exactness { kind ≡ Finishing → FinishesExact file.now (tables_in tables.new) (solve_carries result) }
+        (solve_carries result) (tables values.new picks.new remembered.new walk.new)
+        (solution
+        kind file.now budget
+        (tables values.old picks.old remembered.old walk.old)) }
+    ensures ending { EndsSolved
+        kind file.now budget
+        (tables values.old picks.old remembered.old walk.old) (solve_carries result) }
+    ensures acceptance { PassesAudit
+        file.now
+        (tables values.new picks.new remembered.new walk.new) (solve_carries result) }
+    ensures exactness { kind ≡ Finishing → FinishesExact
+        file.now
+        (tables values.new picks.new remembered.new walk.new) (solve_carries result) }
 {
+    let mut tables = Tables {
+        values,
+        picks,
+        remembered,
+        walk,
+    };
     with_index(
         file,
-        &mut |index| solve_file(kind, file, budget, tables, index),
+        &mut |index| solve_file(kind, file, budget, &mut tables, index),
     )
 }

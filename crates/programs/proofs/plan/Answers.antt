@@ -5,6 +5,7 @@ use lib.ListN.{length}
 use lib.Seq.{length-take-le}
 use Rattle.model.specs.Buffers.{line_most, plan_room}
 use Rattle.model.specs.Limits.{max_states, plan_holds}
+use Rattle.printing.specs.Refusals.{answer_read}
 use Rattle.programs.proofs.Planning.{done_answer, done_walk, done_fit, plans, held_plans, held_passes, not_held, longer_plans}
 use native.Mathlib.Omega.{arith}
 use Rattle.programs.proofs.plan.Goals as goal
@@ -32,6 +33,7 @@ returns c =
     let page-size : length c.args.page.now ≡ plan_holds + 1 = omega (arith, c.front.type_inv) in
     let values_long : length c.args.values.now ≡ max_states = omega (arith, c.run-ran.type_inv) in
     let picks_long : length c.args.picks.now ≡ max_states = omega (arith, c.run-ran.type_inv) in
+    let text = rw (answer_read c.run-ran.result.answer) at c.plan_text-length.ensures in
     let out-wide : plan_room ≤ length c.args.page.now = omega (arith, c.plan_text-length.type_inv) in
     λ f read.
     held_plans c.args.kind f c.args.page.now c.args.values.now c.args.picks.now c.args.read c.if-read-gt-PLAN_HOLDS.false
@@ -40,4 +42,4 @@ returns c =
     (done_walk c.run-ran.ensures c.run-ran.auto.walk) c.run-ran.ensures.remainders_are
     (held_passes c.args.page.now c.args.read c.if-read-gt-PLAN_HOLDS.false c.front.ensures)
     (values_long) (picks_long)
-    (out-wide) c.run-ran.auto.values c.run-ran.auto.picks c.plan_text-length.ensures.holds c.plan_text-length.ensures.brief)
+    (out-wide) c.run-ran.auto.values c.run-ran.auto.picks text.holds text.brief)

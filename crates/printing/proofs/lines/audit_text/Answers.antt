@@ -4,5 +4,5 @@ use Rattle.writing.specs.Pages.{puts_whole}
 use Rattle.printing.proofs.lines.audit_text.Goals as goal
 
 pub returns-clause-holds : goal.returns-clause-holds
-returns-clause-holds c =
+returns-clause-holds g c =
     search (rules, puts_whole c.new-page.ensures.value c.new-page.ensures.empty c.put_audit.ensures.puts c.len.ensures)

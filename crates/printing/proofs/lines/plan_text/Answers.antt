@@ -4,7 +4,7 @@ use Rattle.writing.specs.Pages.{puts_more, puts_whole}
 use Rattle.printing.proofs.lines.plan_text.Goals as goal
 
 pub returns : goal.returns
-returns c =
+returns g c =
     let put = puts_more c.put_answer.ensures.puts c.put_states.ensures.puts in
     let whole = puts_whole c.new-page.ensures.value c.new-page.ensures.empty put c.len.ensures in
     record {
