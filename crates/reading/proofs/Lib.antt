@@ -1,4 +1,5 @@
 -- Laws that the proofs of this crate share.
+pub mod Pairs
 pub mod Places
 pub mod Layouts
 pub mod FewRows
